@@ -1,0 +1,7 @@
+-- What holds of every element of a list.
+use Prim.Native.Nat.{ℕ, _<_}
+use mathlib.Core.List.{List}
+use lib.ListN.{length, getD}
+
+abbrev pub Every : {A : Type 0} → (P : A → Type 0) → (past : A) → List A → Type 0
+Every P past l = (i : ℕ) → i < length l → P (getD l i past)

@@ -1,0 +1,67 @@
+-- What start and withdraw keep: a refused call changes nothing, and a valid record stays valid.
+use Prim.Native.Nat.{ℕ, _≤_, _<_}
+use mathlib.Core.Path.{_≡_, refl, sym}
+use mathlib.Core.Bool.{Bool, true, false, _&&_, true≢false}
+use lib.Dec.{eqb, ltb}
+use borrow.Author.Tests.{lt-ltb, eqb-true, eqb-false, eq-eqb, ne-eqb}
+use native.Mathlib.Omega.{arith}
+use Rattle.logic.specs.Pick.{pick}
+use Rattle.logic.proofs.Bools.{whichever}
+use Rattle.party.specs.Operation.{orderFits}
+use Rattle.party.specs.Record.{idle, begun}
+use Rattle.party.specs.Valid.{validOf, operationFits}
+use Rattle.party.specs.Answer.{goesOn, refused, unless, RefusedKeeps}
+use Rattle.party.specs.Calls.{startRefusal, startOf, withdrawRefusal, withdrawOf}
+use Rattle.party.specs.declared.Record.{Record}
+use Rattle.party.specs.declared.Answered.{Answered}
+use Rattle.party.proofs.Stages.{ValidAt, at-valid}
+use Rattle.party.proofs.Cleared.{startable}
+
+-- 0 is no refusal
+going-on-keeps : (r next : Record) → RefusedKeeps r (goesOn next)
+going-on-keeps r next refused = absurd (true≢false (sym refused))
+
+pub unless-keeps : (number : ℕ) (r : Record) (done : Answered) → RefusedKeeps r done → RefusedKeeps r (unless number r done)
+unless-keeps number r done keeps = whichever (RefusedKeeps r) (eqb number 0) keeps (λ refused. (refl, refl))
+
+pub refused-start-changes-nothing : (max : ℕ) (r : Record) (operation order : ℕ)
+    → RefusedKeeps r (startOf max r operation order)
+unfolding startOf
+refused-start-changes-nothing max r operation order =
+    let next = begun operation order in
+    unless-keeps (startRefusal max r operation order) r (goesOn next) (going-on-keeps r next)
+
+pub refused-withdraw-changes-nothing : (max : ℕ) (r : Record) → RefusedKeeps r (withdrawOf max r)
+unfolding withdrawOf
+refused-withdraw-changes-nothing max r =
+    unless-keeps (withdrawRefusal max r) r (goesOn idle) (going-on-keeps r idle)
+
+pub idle-is-valid : (max : ℕ) → validOf max idle ≡ true
+idle-is-valid max = at-valid max idle (ValidAt.at0 refl refl)
+
+pub begun-is-valid : (max operation order : ℕ) → operation < 4 → orderFits operation order ≡ true
+    → validOf max (begun operation order) ≡ true
+begun-is-valid max operation order known ordered =
+    at-valid max (begun operation order) (ValidAt.at1 refl (rw (lt-ltb operation 4 known, ordered) refl) refl)
+
+-- a call that passes its checks leaves `next`, a refused one the record itself
+unless-valid : (max number : ℕ) (r next : Record) → validOf max r ≡ true → (number ≡ 0 → validOf max next ≡ true)
+    → validOf max (unless number r (goesOn next) .rec) ≡ true
+unless-valid max number r next valid then = go (eqb number 0) refl
+  where
+    go : (none : Bool) → eqb number 0 ≡ none → validOf max (pick none (goesOn next) (refused number r) .rec) ≡ true
+    go true e = then (eqb-true number 0 e)
+    go false e = valid
+
+pub start-keeps-valid : (max : ℕ) (r : Record) (operation order : ℕ) → validOf max r ≡ true
+    → validOf max (startOf max r operation order .rec) ≡ true
+unfolding startOf
+start-keeps-valid max r operation order valid =
+    unless-valid max (startRefusal max r operation order) r (begun operation order) valid
+    (λ none.
+    let clear = startable max r operation order none in
+    begun-is-valid max operation order (omega (arith, clear .known)) (clear .ordered))
+
+pub withdraw-keeps-valid : (max : ℕ) (r : Record) → validOf max r ≡ true → validOf max (withdrawOf max r .rec) ≡ true
+unfolding withdrawOf
+withdraw-keeps-valid max r valid = unless-valid max (withdrawRefusal max r) r idle valid (λ none. idle-is-valid max)

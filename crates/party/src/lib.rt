@@ -1,0 +1,133 @@
+// A party: the record of its operation, when the record is valid, and the two calls that need no strip.
+pub mod make;
+pub mod side;
+pub mod valid;
+
+use crate::make::begun_record;
+use crate::make::going_on;
+use crate::make::idle_record;
+use crate::make::refused_with;
+use crate::side::order_fits;
+use crate::valid::is_valid;
+use logic::pick_u32;
+ghost use mathlib.Core.Path.{_≡_};
+ghost use Rattle.party.specs.Answer.{numberOf, carriedOf, Gives};
+ghost use Rattle.party.specs.Calls.{maxFits, startOwn, startRefusal, startOf};
+ghost use Rattle.party.specs.Calls.{withdrawOwn, withdrawRefusal, withdrawOf};
+
+// The record of a party, as wide as in the image.
+pub struct Record {
+    pub operation: u8,
+    pub stage: u8,
+    pub k: u16,
+    pub v: u32,
+    pub first: u64,
+    pub second: u64,
+}
+
+// What a call answers: specs/Answer.antt gives document 01's number and carried order for each case.
+pub enum Answer {
+    GoesOn,
+    Pushed,
+    Popped(u32),
+    Full,
+    Empty,
+    Refused(u32),
+}
+
+// The answer of a call that was handed a record by value, and the record it leaves.
+pub struct Answered {
+    pub answer: Answer,
+    pub rec: Record,
+}
+
+// Document 01's number of an answer.
+pub fn number(answer: Answer) -> u32
+    ensures { λ n. ⌜ n ≡ numberOf answer ⌝ }
+{
+    match answer {
+        Answer::GoesOn => 0,
+        Answer::Pushed => 16,
+        Answer::Popped(_) => 17,
+        Answer::Full => 18,
+        Answer::Empty => 19,
+        Answer::Refused(number) => number,
+    }
+}
+
+// The order that an answer carries.
+pub fn carried(answer: Answer) -> u32
+    ensures { λ order. ⌜ order ≡ carriedOf answer ⌝ }
+{
+    match answer {
+        Answer::GoesOn => 0,
+        Answer::Pushed => 0,
+        Answer::Popped(order) => order,
+        Answer::Full => 0,
+        Answer::Empty => 0,
+        Answer::Refused(_) => 0,
+    }
+}
+
+fn max_fits(max: u32) -> bool
+    ensures { λ t. ⌜ t ≡ maxFits max ⌝ }
+{
+    (1 <= max) & (max <= 4094)
+}
+
+// The record's own checks, public for the other kinds of memory.
+pub fn start_own(max: u16, r: Record, operation: u8, order: u32) -> u32
+    ensures { λ n. ⌜ n ≡ startOwn max r operation order ⌝ }
+{
+    let disordered = pick_u32(!order_fits(operation, order), 7, 0);
+    pick_u32(!is_valid(max, r), 4, pick_u32(r.stage != 0, 5, disordered))
+}
+
+fn start_refusal(max: u32, r: Record, operation: u32, order: u32) -> u32
+    ensures { λ n. ⌜ n ≡ startRefusal max r operation order ⌝ }
+{
+    if max_fits(max) {
+        if 3 < operation {
+            return 11;
+        }
+        return start_own(max as u16, r, operation as u8, order);
+    }
+    1
+}
+
+// Start: operation and order into an idle record.
+pub fn start(max: u32, r: Record, operation: u32, order: u32) -> Answered
+    ensures { λ got. ⌜ Gives (startOf max r operation order) got ⌝ }
+{
+    let number = start_refusal(max, r, operation, order);
+    if number != 0 {
+        return refused_with(number, r);
+    }
+    going_on(begun_record(operation as u8, order))
+}
+
+pub fn withdraw_own(max: u16, r: Record) -> u32
+    ensures { λ n. ⌜ n ≡ withdrawOwn max r ⌝ }
+{
+    pick_u32(!is_valid(max, r), 4, pick_u32(r.stage == 0, 6, 0))
+}
+
+fn withdraw_refusal(max: u32, r: Record) -> u32
+    ensures { λ n. ⌜ n ≡ withdrawRefusal max r ⌝ }
+{
+    if max_fits(max) {
+        return withdraw_own(max as u16, r);
+    }
+    1
+}
+
+// Withdraw: a busy record becomes all zero.
+pub fn withdraw(max: u32, r: Record) -> Answered
+    ensures { λ got. ⌜ Gives (withdrawOf max r) got ⌝ }
+{
+    let number = withdraw_refusal(max, r);
+    if number != 0 {
+        return refused_with(number, r);
+    }
+    going_on(idle_record())
+}

@@ -1,0 +1,4 @@
+pub mod Table
+pub mod Follow
+pub mod Step
+pub mod Call

@@ -1,0 +1,100 @@
+// The step: the table of stages, and one access for each call.
+pub mod follow;
+pub mod table;
+
+use crate::follow::looked;
+use crate::follow::swapped;
+use crate::table::line;
+use logic::pick_u32;
+use party::Answered;
+use party::Record;
+use party::make::refused_with;
+use party::make::with_place;
+use party::side::in_range;
+use party::valid::is_valid;
+use word::look;
+use word::swap;
+ghost use mathlib.Core.Path.{_≡_};
+ghost use Prim.Native.Nat.{_<_};
+ghost use Rattle.step.specs.Step.{stripFits, hintFits, stepOwn, stepRefusal, aimed, StepPromise};
+
+// What follows a look: the word is remembered as the first; as the second, and judged; or rechecks the first.
+pub enum AfterLook {
+    Remember,
+    Judge,
+    Recheck,
+}
+
+// What follows a swap that won: stage 5, or the push or the pop is done. One that lost goes to stage 1.
+pub enum AfterSwap {
+    Onward,
+    Push,
+    Pop,
+}
+
+// A line of the table: one access, and what follows it. A swap goes from a word to a value.
+pub enum Line {
+    Look(u32, AfterLook),
+    Swap(u32, u64, u32, AfterSwap),
+}
+
+// Public for the calls on a whole strip.
+pub fn strip_fits(words: usize) -> bool
+    ensures { λ t. ⌜ t ≡ stripFits words ⌝ }
+{
+    (3 <= words) & (words <= 4096)
+}
+
+fn hint_fits(max: u16, r: Record, hint: u32) -> bool
+    ensures { λ t. ⌜ t ≡ hintFits max r hint ⌝ }
+{
+    (r.stage != 1) | in_range(max, r.operation, hint)
+}
+
+// The record's own checks, public for the other kinds of memory.
+pub fn step_own(max: u16, r: Record, hint: u32) -> u32
+    ensures { λ n. ⌜ n ≡ stepOwn max r hint ⌝ }
+{
+    let aimless = pick_u32(!hint_fits(max, r, hint), 8, 0);
+    pick_u32(!is_valid(max, r), 4, pick_u32(r.stage == 0, 6, aimless))
+}
+
+fn step_refusal(words: usize, r: Record, hint: u32) -> u32
+    ensures { λ n. ⌜ n ≡ stepRefusal words r hint ⌝ }
+{
+    if strip_fits(words) {
+        return step_own((words - 2) as u16, r, hint);
+    }
+    1
+}
+
+// Stage 1 takes the hint as k. It is public for the other kinds of memory, which check the hint first.
+pub fn aim(r: Record, hint: u32) -> Record
+    requires { ⌜ (r .stage ≡ 1 → hint < 65536) ⌝ }
+    ensures { λ got. ⌜ got ≡ aimed r hint ⌝ }
+{
+    if r.stage == 1 {
+        return with_place(hint as u16, r);
+    }
+    r
+}
+
+// Step: one access to the strip, and what follows it.
+pub fn step(strip: &mut [u64], r: Record, hint: u32) -> Answered
+    ensures { λ got. ⌜ StepPromise (now (strip .entry)) r hint got (now (strip .exit)) ⌝ }
+{
+    let number = step_refusal(strip.len(), r, hint);
+    if number != 0 {
+        return refused_with(number, r);
+    }
+    let max = (strip.len() - 2) as u16;
+    let at = aim(r, hint);
+    match line(at) {
+        Line::Look(place, then) => looked(max, at, then, look(strip, place as usize)),
+        Line::Swap(place, from, to, then) => swapped(
+            at,
+            then,
+            swap(strip, place as usize, from, to),
+        ),
+    }
+}
