@@ -1,0 +1,47 @@
+-- How a search goes on and where it stops, for both sides.
+use Prim.Native.Nat.{ℕ, suc, _+_, _-_}
+use mathlib.Core.Path.{_≡_, ap, _∙_}
+use mathlib.Core.Bool.{Bool, true, false}
+use mathlib.Core.List.{List}
+use lib.ListN.{length}
+use native.Mathlib.Omega.{arith}
+use Rattle.step.specs.Step.{stripFits, maxOf}
+use Rattle.step.proofs.Cleared.{strip-within}
+use Rattle.strip.specs.Find.{isEnd, candidate, firstFrom, findOf, foundNumber, foundPlace, FindPromise}
+use Rattle.strip.specs.declared.Found.{Found}
+use Rattle.strip.specs.declared.Found.the-variants.{Place, NotFound}
+
+finds : {operation : ℕ} {strip : List ℕ} {got : Found} → got ≡ findOf operation strip → FindPromise operation strip got
+finds e = record { number = ap foundNumber e; place = ap foundPlace e }
+
+module _ (operation : ℕ) (strip : List ℕ) where
+  pub find-refuses : stripFits (length strip) ≡ false → FindPromise operation strip (NotFound 1)
+  unfolding findOf
+  find-refuses unfit = finds (simp unfit)
+
+  -- the search stands at candidate i with so many left, and what it finds among them is what find answers
+  abbrev pub Searching : (i left : ℕ) → Type 0
+  Searching i left =
+      firstFrom (isEnd operation strip) (candidate operation (maxOf (length strip))) i left ≡ findOf operation strip
+
+  pub find-starts : (i : ℕ) → i ≡ 0 → stripFits (length strip) ≡ true → Searching i (length strip - 1)
+  unfolding findOf
+  find-starts i first fits =
+      let within = strip-within (length strip) fits in
+      let all : length strip - 1 ≡ maxOf (length strip) + 1 = omega arith in
+      simp (first, fits, all)
+
+  module _ (i left : ℕ) (so-far : Searching i left) where
+    -- with no candidate left the search ends as refusal 10
+    pub find-ends : (got : Found) → got ≡ NotFound 10 → left ≡ 0 → FindPromise operation strip got
+    unfolding firstFrom
+    find-ends got is none = finds (is ∙ rw none at so-far)
+
+    module _ (k less : ℕ) (at : candidate operation (maxOf (length strip)) i ≡ k) (more : left ≡ suc less) where
+      pub find-stops : (end : Bool) → end ≡ isEnd operation strip k → end ≡ true → FindPromise operation strip (Place k)
+      unfolding firstFrom
+      find-stops end is here = finds (rw (more, at, ← is, here) at so-far)
+
+      pub find-goes-on : (j : ℕ) → i + 1 ≡ j → (end : Bool) → end ≡ isEnd operation strip k → end ≡ false → Searching j less
+      unfolding firstFrom
+      find-goes-on j next end is not-here = rw (more, at, ← is, not-here, next) at so-far

@@ -1,0 +1,48 @@
+-- Find: the first place of a side, from its far end on, that holds own null beside a neighbour that does not.
+use Prim.Native.Nat.{ℕ, zero, suc, _+_, _-_}
+use mathlib.Core.Path.{_≡_}
+use mathlib.Core.Bool.{Bool, not, _&&_}
+use mathlib.Core.List.{List}
+use lib.ListN.{length}
+use lib.Dec.{eqb}
+use Rattle.logic.specs.Pick.{pick}
+use Rattle.party.specs.Operation.{isRight, ownNull, neighbour}
+use Rattle.step.specs.Step.{stripFits, maxOf}
+use Rattle.strip.specs.Shape.{valueAt}
+use Rattle.strip.specs.declared.Found.{Found}
+use Rattle.strip.specs.declared.Found.the-variants.{Place, NotFound}
+
+-- the place holds own null and its neighbour does not
+abbrev pub isEnd : (operation : ℕ) (strip : List ℕ) (k : ℕ) → Bool
+isEnd operation strip k =
+    eqb (valueAt strip k) (ownNull operation) && not (eqb (valueAt strip (neighbour operation k)) (ownNull operation))
+
+-- the places of a side in the order of the search: from 1 up on the right, from MAX down on the left
+abbrev pub candidate : (operation max i : ℕ) → ℕ
+candidate operation max i = pick (isRight operation) (1 + i) (max - i)
+
+-- the first of `count` candidates from number i on that passes the test
+unfoldable pub firstFrom : (test : ℕ → Bool) (places : ℕ → ℕ) (i count : ℕ) → Found
+firstFrom test places i zero = NotFound 10
+firstFrom test places i (suc count) =
+    pick (test (places i)) (Place (places i)) (firstFrom test places (i + 1) count)
+
+unfoldable pub findOf : (operation : ℕ) (strip : List ℕ) → Found
+findOf operation strip =
+    pick (stripFits (length strip))
+    (firstFrom (isEnd operation strip) (candidate operation (maxOf (length strip))) 0 (maxOf (length strip) + 1))
+    (NotFound 1)
+
+abbrev pub foundNumber : Found → ℕ
+foundNumber (Place k) = 0
+foundNumber (NotFound number) = number
+
+-- a refusal gives 0 for the place
+abbrev pub foundPlace : Found → ℕ
+foundPlace (Place k) = k
+foundPlace (NotFound number) = 0
+
+-- What find promises: the number and the place. The strip is lent to be read alone.
+pub record FindPromise (operation : ℕ) (strip : List ℕ) (got : Found) : Type 0 where
+  pub number : foundNumber got ≡ foundNumber (findOf operation strip)
+  pub place : foundPlace got ≡ foundPlace (findOf operation strip)

@@ -1,0 +1,5 @@
+pub mod Plain
+pub mod Shape
+pub mod Lay
+pub mod Measure
+pub mod Find
