@@ -1,0 +1,228 @@
+-- A left step is the mirror of the right step.
+use Prim.Native.Nat.{ℕ, _+_, _-_, _<_, _≤_}
+use mathlib.Core.Path.{_≡_, refl, sym, _∙_, ap, subst}
+use mathlib.Core.Bool.{Bool, true, false, not, _||_, true≢false}
+use mathlib.Core.List.{List}
+use mathlib.Core.Logic.{_⊎_, inl, inr}
+use lib.ListN.{length, getD}
+use lib.Dec.{eqb, leb}
+use borrow.Author.Tests.{eqb-true, leb-true}
+use native.Mathlib.Omega.{arith}
+use Rattle.logic.specs.Pick.{pick}
+use Rattle.logic.proofs.Bools.{both}
+use Rattle.word.specs.Word.{valueOf, counterOf, raisedTo, lastCounter, LN, RN}
+use Rattle.word.specs.Swap.{swapOf, wordsAfter}
+use Rattle.party.specs.Record.{again}
+use Rattle.party.specs.Valid.{placeFits}
+use Rattle.party.specs.Answer.{refused}
+use Rattle.party.specs.declared.Record.{Record}
+use Rattle.party.specs.declared.Answered.{Answered}
+use Rattle.party.specs.declared.Answer.the-variants.{Popped}
+use Rattle.step.specs.Table.{lineOf}
+use Rattle.step.specs.Follow.{judgeOf, recheckOf, wonOf, swappedOf}
+use Rattle.step.specs.Step.{stripFits, maxOf, stepRefusal, aimed, followed, written, stepOf, stepLeaves}
+use Rattle.step.specs.declared.AfterSwap.{AfterSwap}
+use Rattle.step.specs.declared.AfterSwap.the-variants.{Onward, Push, Pop}
+use Rattle.word.specs.declared.Swapped.{Swapped}
+use Rattle.word.specs.declared.Swapped.the-variants.{Won, Lost, Stuck}
+use Rattle.step.proofs.Cleared.{Steppable, steppable, strip-within}
+use Rattle.party.proofs.Stages.{stage-3-fits, stage-5-fits}
+use Rattle.mirror.specs.Mirror.{mirrorWord, mirrorStrip, mirrorPlace, mirrorRecord, mirrorAnswer, Mirrors, StepMirrors}
+use Rattle.mirror.proofs.Words.{order-stays, mirror-value, mirror-counter, mirror-same, mirror-is-RN, mirror-is-LN, mirror-raised}
+use Rattle.mirror.proofs.Strips.{length-mirror, mirror-at, mirror-set}
+use Rattle.mirror.proofs.Refusals.{wall-mirrors, by-stage, past-is-invalid, push-refused-alike, pop-refused-alike}
+
+-- what computes to its mirror
+mirrored : {max : ℕ} {given : Answered} {left : List ℕ}
+    → Mirrors max given left (record { answer = mirrorAnswer (given .answer); rec = mirrorRecord max (given .rec) }) (mirrorStrip left)
+mirrored = record { answer = refl; rec = refl; words = refl }
+
+-- where both go the same way by one test
+either : {max : ℕ} {left left′ : List ℕ} (test : Bool) {x y x′ y′ : Answered} → Mirrors max x left x′ left′ → Mirrors max y left y′ left′
+    → Mirrors max (pick test x y) left (pick test x′ y′) left′
+either true p q = p
+either false p q = q
+
+-- what follows the access of the mirrored record's line, and the words it leaves, mirror those of the record's line
+abbrev LineMirrors : List ℕ → Record → (hint : ℕ) → Type 0
+LineMirrors strip r hint =
+    let max = maxOf (length strip) in
+    let at = aimed r hint in
+    let at′ = aimed (mirrorRecord max r) (mirrorPlace max hint) in
+    Mirrors max (followed strip at (lineOf at)) (written strip (lineOf at)) (followed (mirrorStrip strip) at′ (lineOf at′))
+    (written (mirrorStrip strip) (lineOf at′))
+
+-- a step that is refused alike mirrors, if its line does where it passes
+step-mirrors : (strip : List ℕ) (r : Record) (hint : ℕ)
+    → stepRefusal (length strip) (mirrorRecord (maxOf (length strip)) r) (mirrorPlace (maxOf (length strip)) hint) ≡ stepRefusal (length strip) r hint
+    → (Steppable (length strip) r hint → LineMirrors strip r hint) → StepMirrors strip r hint
+unfolding stepOf stepLeaves
+step-mirrors strip r hint alike line = rw (length-mirror strip, alike) (go (eqb number 0) refl)
+  where
+    number : ℕ
+    number = stepRefusal (length strip) r hint
+
+    max : ℕ
+    max = maxOf (length strip)
+
+    at : Record
+    at = aimed r hint
+
+    r′ : Record
+    r′ = mirrorRecord max r
+
+    at′ : Record
+    at′ = aimed r′ (mirrorPlace max hint)
+
+    go : (none : Bool) → eqb number 0 ≡ none
+        → Mirrors max (pick none (followed strip at (lineOf at)) (refused number r)) (pick none (written strip (lineOf at)) strip)
+        (pick none (followed (mirrorStrip strip) at′ (lineOf at′)) (refused number r′))
+        (pick none (written (mirrorStrip strip) (lineOf at′)) (mirrorStrip strip))
+    go true e = line (steppable (length strip) r hint (eqb-true number 0 e))
+    go false e = mirrored
+
+-- a swap on the mirrored strip goes as the swap does
+swap-mirrors : (strip : List ℕ) (i j from to to′ : ℕ) (r r′ : Record) (then : AfterSwap) → i + j + 1 ≡ length strip
+    → raisedTo (mirrorWord from) to′ ≡ mirrorWord (raisedTo from to)
+    → Mirrors (maxOf (length strip)) (wonOf r then) strip (wonOf r′ then) (mirrorStrip strip)
+    → r′ ≡ mirrorRecord (maxOf (length strip)) r → again r′ ≡ mirrorRecord (maxOf (length strip)) (again r)
+    → Mirrors (maxOf (length strip)) (swappedOf r then (swapOf (getD strip i 0) from))
+    (wordsAfter (swapOf (getD strip i 0) from) strip i (raisedTo from to))
+    (swappedOf r′ then (swapOf (getD (mirrorStrip strip) j 0) (mirrorWord from)))
+    (wordsAfter (swapOf (getD (mirrorStrip strip) j 0) (mirrorWord from)) (mirrorStrip strip) j (raisedTo (mirrorWord from) to′))
+swap-mirrors strip i j from to to′ r r′ then across raised won same lost =
+    rw (raised, mirror-at strip i j across, mirror-same met from, mirror-counter from) (go (eqb met from) (eqb (counterOf from) lastCounter))
+  where
+    met : ℕ
+    met = getD strip i 0
+
+    goes : (whole ended : Bool) (word : ℕ) → Swapped
+    goes whole ended word = pick whole (pick ended Stuck Won) (Lost word)
+
+    go : (whole ended : Bool)
+        → Mirrors (maxOf (length strip)) (swappedOf r then (goes whole ended met)) (wordsAfter (goes whole ended met) strip i (raisedTo from to))
+        (swappedOf r′ then (goes whole ended (mirrorWord met)))
+        (wordsAfter (goes whole ended (mirrorWord met)) (mirrorStrip strip) j (mirrorWord (raisedTo from to)))
+    go true true = record { answer = refl; rec = same; words = refl }
+    go true false = record { answer = won .answer; rec = won .rec; words = mirror-set strip i j (raisedTo from to) across }
+    go false ended = record { answer = refl; rec = lost; words = refl }
+
+module _ (strip : List ℕ) (hint k v first second : ℕ) where
+  abbrev max : ℕ
+  max = maxOf (length strip)
+
+  abbrev push : (stage : ℕ) → Record
+  push stage = record { operation = 2; stage = stage; k = k; v = v; first = first; second = second }
+
+  abbrev pop : (stage : ℕ) → Record
+  pop stage = record { operation = 3; stage = stage; k = k; v = v; first = first; second = second }
+
+  push-1 : hint + 2 ≤ length strip → LineMirrors strip (push 1) hint
+  unfolding lineOf
+  push-1 inside = rw (mirror-at strip (hint + 1) (mirrorPlace max hint - 1) (omega arith)) mirrored
+
+  pop-1 : hint + 2 ≤ length strip → LineMirrors strip (pop 1) hint
+  unfolding lineOf
+  pop-1 inside = rw (mirror-at strip (hint + 1) (mirrorPlace max hint - 1) (omega arith)) mirrored
+
+  module _ (inside : k + 2 ≤ length strip) where
+    met : getD (mirrorStrip strip) (mirrorPlace max k) 0 ≡ mirrorWord (getD strip k 0)
+    met = mirror-at strip k (mirrorPlace max k) (omega arith)
+
+    push-2 : LineMirrors strip (push 2) hint
+    unfolding lineOf judgeOf
+    push-2 =
+        let word = getD strip k 0 in
+        rw (length-mirror strip, met, mirror-is-RN first, mirror-is-RN word, wall-mirrors max k)
+        (either (eqb (valueOf first) LN || not (eqb (valueOf word) LN)) mirrored (either (eqb k 0) mirrored mirrored))
+
+    pop-2 : LineMirrors strip (pop 2) hint
+    unfolding lineOf judgeOf
+    pop-2 =
+        let word = getD strip k 0 in
+        rw (met, mirror-is-RN first, mirror-is-LN first, mirror-is-RN word)
+        (either (eqb (valueOf first) LN || not (eqb (valueOf word) LN)) mirrored (either (eqb (valueOf first) RN) mirrored mirrored))
+
+    pop-3 : LineMirrors strip (pop 3) hint
+    unfolding lineOf recheckOf
+    pop-3 =
+        let word = getD strip (k + 1) 0 in
+        rw (mirror-at strip (k + 1) (mirrorPlace max k - 1) (omega arith), mirror-same word first)
+        (either (eqb word first) mirrored mirrored)
+
+    push-4 : LineMirrors strip (push 4) hint
+    unfolding lineOf
+    push-4 =
+        swap-mirrors strip (k + 1) (mirrorPlace max k - 1) first (valueOf first) (valueOf (mirrorWord first)) (push 4) (mirrorRecord max (push 4))
+        Onward (omega arith) (ap (raisedTo (mirrorWord first)) (mirror-value first) ∙ mirror-raised first (valueOf first) (omega arith))
+        mirrored refl refl
+
+    pop-4 : LineMirrors strip (pop 4) hint
+    unfolding lineOf
+    pop-4 =
+        swap-mirrors strip k (mirrorPlace max k) second LN RN (pop 4) (mirrorRecord max (pop 4)) Onward (omega arith)
+        (mirror-raised second LN (omega arith)) mirrored refl refl
+
+    push-5 : 3 ≤ v → v < 4294967296 → LineMirrors strip (push 5) hint
+    unfolding lineOf
+    push-5 order below =
+        swap-mirrors strip k (mirrorPlace max k) second v v (push 5) (mirrorRecord max (push 5)) Push (omega arith)
+        (ap (raisedTo (mirrorWord second)) (sym (order-stays v order)) ∙ mirror-raised second v below) mirrored refl refl
+
+    pop-5 : LineMirrors strip (pop 5) hint
+    unfolding lineOf
+    pop-5 =
+        swap-mirrors strip (k + 1) (mirrorPlace max k - 1) first LN RN (pop 5) (mirrorRecord max (pop 5)) Pop (omega arith)
+        (mirror-raised first LN (omega arith)) (record { answer = ap Popped (mirror-value first); rec = refl; words = refl }) refl refl
+
+  -- a place in range on the left, and its neighbour, lie inside the strip
+  within : (place : ℕ) → stripFits (length strip) ≡ true → leb place max ≡ true → place + 2 ≤ length strip
+  within place fits low = omega (arith, strip-within (length strip) fits, leb-true place max low)
+
+  push-line : v < 4294967296 → (stage : ℕ) → Steppable (length strip) (push stage) hint → LineMirrors strip (push stage) hint
+  push-line below =
+      by-stage (λ (stage : ℕ). Steppable (length strip) (push stage) hint → LineMirrors strip (push stage) hint)
+      (λ clear. absurd (true≢false (clear .busy)))
+      (λ clear. push-1 (within hint (clear .strip-fits) (clear .aimed-fits)))
+      (λ clear. push-2 (within k (clear .strip-fits) (clear .aimed-fits)))
+      (λ clear. let fits = stage-3-fits max (push 3) (clear .valid) refl .1 in absurd (true≢false (sym (both (placeFits max (push 3)) false fits .1))))
+      (λ clear. push-4 (within k (clear .strip-fits) (clear .aimed-fits)))
+      (λ clear.
+      let order = leb-true 3 v (stage-5-fits max (push 5) (clear .valid) refl .0) in
+      push-5 (within k (clear .strip-fits) (clear .aimed-fits)) order below)
+      (λ stage past clear. absurd (true≢false (sym (clear .valid) ∙ past-is-invalid max (push stage) past)))
+
+  pop-line : (stage : ℕ) → Steppable (length strip) (pop stage) hint → LineMirrors strip (pop stage) hint
+  pop-line =
+      by-stage (λ (stage : ℕ). Steppable (length strip) (pop stage) hint → LineMirrors strip (pop stage) hint)
+      (λ clear. absurd (true≢false (clear .busy)))
+      (λ clear. pop-1 (within hint (clear .strip-fits) (clear .aimed-fits)))
+      (λ clear. pop-2 (within k (clear .strip-fits) (clear .aimed-fits)))
+      (λ clear. pop-3 (within k (clear .strip-fits) (clear .aimed-fits)))
+      (λ clear. pop-4 (within k (clear .strip-fits) (clear .aimed-fits)))
+      (λ clear. pop-5 (within k (clear .strip-fits) (clear .aimed-fits)))
+      (λ stage past clear. absurd (true≢false (sym (clear .valid) ∙ past-is-invalid max (pop stage) past)))
+
+  push-mirrors : v < 4294967296 → (stage : ℕ) → StepMirrors strip (push stage) hint
+  push-mirrors below stage =
+      step-mirrors strip (push stage) hint (push-refused-alike (length strip) hint k v first second stage) (push-line below stage)
+
+  pop-mirrors : (stage : ℕ) → StepMirrors strip (pop stage) hint
+  pop-mirrors stage = step-mirrors strip (pop stage) hint (pop-refused-alike (length strip) hint k v first second stage) (pop-line stage)
+
+-- A left step is the mirror of the right step, refused or not, on any strip and with any hint. An order is 32 bits wide.
+pub a-left-step-is-the-mirrored-right-step : (strip : List ℕ) (r : Record) (hint : ℕ)
+    → (r .operation ≡ 2) ⊎ (r .operation ≡ 3) → r .v < 4294967296 → StepMirrors strip r hint
+a-left-step-is-the-mirrored-right-step strip r hint left below = go left
+  where
+    -- the record is the one with its operation's number
+    numbered : (operation : ℕ) → r .operation ≡ operation
+        → StepMirrors strip (record { operation = operation; stage = r .stage; k = r .k; v = r .v; first = r .first; second = r .second }) hint
+        → StepMirrors strip r hint
+    numbered operation o =
+        subst (λ (x : Record). StepMirrors strip x hint)
+        (λ i. record { operation = sym o i; stage = r .stage; k = r .k; v = r .v; first = r .first; second = r .second })
+
+    go : (r .operation ≡ 2) ⊎ (r .operation ≡ 3) → StepMirrors strip r hint
+    go (inl o) = numbered 2 o (push-mirrors strip hint (r .k) (r .v) (r .first) (r .second) below (r .stage))
+    go (inr o) = numbered 3 o (pop-mirrors strip hint (r .k) (r .v) (r .first) (r .second) (r .stage))

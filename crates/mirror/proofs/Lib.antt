@@ -1,0 +1,5 @@
+pub mod Words
+pub mod Strips
+pub mod Refusals
+pub mod Left
+pub mod BothSides

@@ -1,0 +1,1 @@
+// The mirror, and that a left step is the mirror of the right step. No code.
