@@ -1,0 +1,85 @@
+-- Demand 3. Whatever strip of 3 to 4,096 words that stands for a plain strip p, whatever number of parties, all idle, and whatever
+-- calls, refused ones too (an order is 32 bits wide): the schedule and its lines are explained by the plain strip.
+use Prim.Native.Nat.{ℕ, _+_, _≤_}
+use mathlib.Core.Path.{_≡_, refl}
+use mathlib.Core.Bool.{true}
+use mathlib.Core.List.{List}
+use lib.ListN.{length, take, length-take}
+use lib.Seq.{getD-take}
+use borrow.Author.Tests.{le-leb}
+use native.Mathlib.Omega.{arith}
+use Rattle.logic.specs.Every.{Every}
+use Rattle.step.specs.Step.{stripFits}
+use Rattle.step.specs.Call.{Call, Fitting}
+use Rattle.strip.specs.Plain.{Plain, freshPlain}
+use Rattle.strip.specs.Shape.{StandsFor, Shaped}
+use Rattle.strip.specs.Lay.{freshStrip}
+use Rattle.strip.specs.Measure.{measureOf}
+use Rattle.strip.specs.declared.Measured.the-variants.{Shape}
+use Rattle.strip.proofs.Laying.{fresh-length}
+use Rattle.strip.proofs.Values.{fresh-stands-for}
+use Rattle.strip.proofs.MeasureShapes.{measure-gives-the-plain-strip}
+use Rattle.fresh.proofs.Begin.{idle-is-sane}
+use Rattle.fresh.proofs.Writes.{IsWord}
+use Rattle.placing.specs.Placing.{total}
+use Rattle.history.specs.Run.{begin, linesFrom, endFrom, noCall}
+use Rattle.history.specs.Finished.{Finished, finishedOf}
+use Rattle.history.specs.Explained.{Explained}
+use Rattle.history.specs.Accounts.{held, accepted, taken}
+use Rattle.history.proofs.Explaining.{machine-explains}
+use Rattle.history.proofs.Keeping.{Keeps, the-strip-keeps-going}
+use Rattle.history.proofs.Counters.{the-strip-stays-as-long, no-counter-ever-comes-round}
+use Rattle.history.proofs.Accounts.{accepted-is-held-or-taken}
+
+module _ (strip : List ℕ) (p : Plain) (parties : ℕ) (calls : List Call) (strip-fits : stripFits (length strip) ≡ true)
+    (stands : StandsFor strip p) (fitting : Every Fitting noCall calls) where
+  -- Every schedule is explained: the finished operations, played on p in the order of their effects, give every answer, and end at
+  -- the plain strip that the words stand for at the end.
+  pub every-schedule-is-explained :
+      (q : Plain) × StandsFor (endFrom (begin strip parties) 0 calls .strip) q
+      × Explained p (finishedOf parties calls (linesFrom (begin strip parties) 0 calls)) (length calls) q
+  every-schedule-is-explained =
+      machine-explains Keeps the-strip-keeps-going strip p parties calls strip-fits stands fitting
+
+  -- What measure then says are that plain strip's numbers.
+  pub the-end-is-measured : (q : Plain) → StandsFor (endFrom (begin strip parties) 0 calls .strip) q
+      → measureOf (endFrom (begin strip parties) 0 calls .strip) ≡ Shape (q .left) (length (q .orders)) (q .right)
+  the-end-is-measured q stands-at-end =
+      measure-gives-the-plain-strip (endFrom (begin strip parties) 0 calls .strip) q
+      (rw (the-strip-stays-as-long (begin strip parties) 0 calls) strip-fits) stands-at-end
+
+  pub the-strip-is-shaped-after-every-entry : (n : ℕ) → Shaped (endFrom (begin strip parties) 0 (take n calls) .strip)
+  the-strip-is-shaped-after-every-entry n =
+      let upto = machine-explains Keeps the-strip-keeps-going strip p parties (take n calls) strip-fits stands fits in
+      (upto .0, upto .1)
+    where
+      fits : Every Fitting noCall (take n calls)
+      fits i within =
+          let size = length-take n calls in
+          rw (getD-take n calls i noCall (omega arith)) (fitting i (omega arith))
+
+  pub no-counter-comes-round-in-a-schedule : Every IsWord 0 strip → Every IsWord 0 (endFrom (begin strip parties) 0 calls .strip)
+  no-counter-comes-round-in-a-schedule words =
+      no-counter-ever-comes-round (begin strip parties) 0 calls strip-fits (idle-is-sane strip parties) fitting words
+
+-- A fresh strip with divide d is an instance, with a fresh plain strip of the same divide.
+module _ (max divide parties : ℕ) (calls : List Call) (some : 1 ≤ max) (small : max ≤ 4094) (inside : divide ≤ max)
+    (fitting : Every Fitting noCall calls) where
+  fresh-fits : stripFits (length (freshStrip max divide)) ≡ true
+  fresh-fits =
+      rw (fresh-length max divide inside, le-leb 3 (max + 2) (omega arith), le-leb (max + 2) 4096 (omega arith)) refl
+
+  pub every-schedule-on-a-fresh-strip-is-explained :
+      (q : Plain) × StandsFor (endFrom (begin (freshStrip max divide) parties) 0 calls .strip) q
+      × Explained (freshPlain max divide) (finishedOf parties calls (linesFrom (begin (freshStrip max divide) parties) 0 calls))
+      (length calls) q
+  every-schedule-on-a-fresh-strip-is-explained =
+      every-schedule-is-explained (freshStrip max divide) (freshPlain max divide) parties calls fresh-fits
+      (fresh-stands-for max divide) fitting
+
+-- From a fresh strip an accepted order is held or was taken, as often as it was accepted.
+pub from-fresh-accepted-is-held-or-taken : (max divide : ℕ) {finished : List Finished} {entries : ℕ} {last : Plain}
+    → Explained (freshPlain max divide) finished entries last → (order : ℕ)
+    → accepted order finished ≡ held order last + taken order finished
+unfolding total
+from-fresh-accepted-is-held-or-taken max divide explained order = omega (arith, accepted-is-held-or-taken explained order)

@@ -1,0 +1,109 @@
+-- FULL took effect at that attempt's stage 1 read and EMPTY at that attempt's stage 2 read: the party's last step that was not refused.
+use Prim.Native.Nat.{ℕ, zero, suc, _<_, _≤_}
+use mathlib.Core.Path.{_≡_, refl, sym, _∙_, ap, subst}
+use mathlib.Core.Bool.{Bool, true, false, true≢false}
+use mathlib.Core.Logic.{inl, inr}
+use mathlib.Core.List.{List}
+use lib.ListN.{getD}
+use lib.Dec.{eqb}
+use borrow.Author.Tests.{eqb-true, eqb-false}
+use native.Mathlib.Omega.{arith}
+use Rattle.logic.specs.Pick.{pick}
+use Rattle.logic.proofs.Bools.{both}
+use Rattle.party.specs.Record.{idle}
+use Rattle.party.specs.Answer.{isRefusal}
+use Rattle.party.specs.declared.Record.{Record}
+use Rattle.step.specs.Call.{Call, partyOf}
+use Rattle.history.specs.Run.{State, begin, leaves, lineOf, looked}
+use Rattle.history.proofs.Parties.{numberAt, looksNow, look-is-a-step, look-after}
+use Rattle.history.proofs.Since.{Since, Early, since}
+use Rattle.history.proofs.Results.{a-result-ends}
+use Rattle.history.proofs.Entries.{stateAt}
+use Rattle.history.proofs.Explaining.{booked-at}
+
+second : (r : Record) → Early r → 2 ≤ r .stage
+second r (inl e) = omega arith
+second r (inr e) = omega arith
+
+one-longer : (P : ℕ → Type 0) (e n : ℕ) → ((m : ℕ) → e < m → m < n → P m) → P n → (m : ℕ) → e < m → m < suc n → P m
+one-longer P e n before last m after within = go (eqb m n) refl
+  where
+    go : (at : Bool) → eqb m n ≡ at → P m
+    go true t = rw (eqb-true m n t) last
+    go false t = let other = eqb-false m n t in before m after (omega arith)
+
+-- whose call was refused has not looked
+refused-unlooked : (s : State) (call : Call) (i : ℕ) → (partyOf call ≡ i → isRefusal (numberAt s call) ≡ true) → looksNow s call i ≡ false
+refused-unlooked s call i refused = go (looksNow s call i) refl
+  where
+    go : (now : Bool) → looksNow s call i ≡ now → now ≡ false
+    go true e =
+        let each = both (looked s call (numberAt s call)) (eqb i (partyOf call)) e in
+        let none = look-is-a-step s call (each .0) .2 in
+        absurd (true≢false (sym (refused (sym (eqb-true i (partyOf call) (each .1)))) ∙ rw none refl))
+    go false e = refl
+
+module _ (strip : List ℕ) (parties : ℕ) (call : ℕ → Call) where
+  abbrev at : ℕ → State
+  at n = stateAt (begin strip parties) call n
+
+  abbrev recordAt : (n i : ℕ) → Record
+  recordAt n i = getD (at n .table) i idle
+
+  -- e is the entry of a look of party i before entry n: its own step, from the stage before the one where it is now; and what else it
+  -- was called for since was refused
+  pub record LookedAt (n i e : ℕ) : Type 0 where
+    pub own : partyOf (call e) ≡ i
+    pub from-stage : recordAt n i .stage ≡ suc (recordAt e i .stage)
+    pub refused-since : (m : ℕ) → e < m → m < n → partyOf (call m) ≡ i → isRefusal (numberAt (at m) (call m)) ≡ true
+
+  looked-at : (n i : ℕ) → Early (recordAt n i) → LookedAt n i (getD (at n .looks) i 0)
+  unfolding stateAt
+  looked-at zero i early = absurd (let seen = booked-at strip parties call 0 .looked-so i (second (recordAt 0 i) early) in omega arith)
+  looked-at (suc n) i early = go (since (at n) n (call n) i early) (looked-at n i)
+    where
+      look-is : getD (leaves (at n) n (call n) .looks) i 0 ≡ pick (looksNow (at n) (call n) i) n (getD (at n .looks) i 0)
+      look-is = look-after (at n) n (booked-at strip parties call n .looks-size) (call n) i
+
+      go : Since (at n) (call n) i (recordAt n i) (getD (leaves (at n) n (call n) .table) i idle)
+          → (Early (recordAt n i) → LookedAt n i (getD (at n .looks) i 0)) → LookedAt (suc n) i (getD (leaves (at n) n (call n) .looks) i 0)
+      go (Since.now looks from) before =
+          let each = both (looked (at n) (call n) (numberAt (at n) (call n))) (eqb i (partyOf (call n))) looks in
+          rw (look-is, looks)
+          (record {
+            own = sym (eqb-true i (partyOf (call n)) (each .1));
+            from-stage = from;
+            refused-since = λ m after early-m. absurd (omega arith);
+          })
+      go (Since.still same refused) before =
+          let was = before (subst Early same early) in
+          rw (look-is, refused-unlooked (at n) (call n) i refused)
+          (record {
+            own = was .own;
+            from-stage = ap (λ (r : Record). r .stage) same ∙ was .from-stage;
+            refused-since =
+                one-longer (λ (m : ℕ). partyOf (call m) ≡ i → isRefusal (numberAt (at m) (call m)) ≡ true) (getD (at n .looks) i 0) n
+                (was .refused-since) refused;
+          })
+
+  -- where the line of entry n says that its operation took effect
+  abbrev effectAt : ℕ → ℕ
+  effectAt n = lineOf (at n) n (call n) .effect
+
+  -- FULL: at that attempt's stage 1 read.
+  pub full-took-effect-at-the-stage-1-read : (n : ℕ) → numberAt (at n) (call n) ≡ 18
+      → LookedAt n (partyOf (call n)) (effectAt n) × (recordAt (effectAt n) (partyOf (call n)) .stage ≡ 1)
+  unfolding lineOf
+  full-took-effect-at-the-stage-1-read n full =
+      let two = a-result-ends (at n) n (call n) (rw full refl) .full-at full in
+      let looked-so = looked-at n (partyOf (call n)) (inl two) in
+      rw full (looked-so, omega (arith, looked-so .from-stage))
+
+  -- EMPTY: at that attempt's stage 2 read.
+  pub empty-took-effect-at-the-stage-2-read : (n : ℕ) → numberAt (at n) (call n) ≡ 19
+      → LookedAt n (partyOf (call n)) (effectAt n) × (recordAt (effectAt n) (partyOf (call n)) .stage ≡ 2)
+  unfolding lineOf
+  empty-took-effect-at-the-stage-2-read n empty =
+      let three = a-result-ends (at n) n (call n) (rw empty refl) .empty-at empty in
+      let looked-so = looked-at n (partyOf (call n)) (inr three) in
+      rw empty (looked-so, omega (arith, looked-so .from-stage))

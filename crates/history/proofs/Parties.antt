@@ -1,0 +1,232 @@
+-- What an entry makes of each party: its record, what it was last asked, and its last look.
+use Prim.Native.Nat.{ℕ, _<_, _≤_}
+use mathlib.Core.Path.{_≡_, refl, sym, _∙_, ap, subst}
+use mathlib.Core.Bool.{Bool, true, false, _&&_, _||_, true≢false}
+use mathlib.Core.Logic.{_⊎_, inl, inr}
+use mathlib.Core.List.{List}
+use lib.ListN.{length, getD, set}
+use lib.Seq.{getD-set-same, getD-set-other}
+use lib.Dec.{eqb}
+use borrow.Author.Tests.{eqb-true, eqb-false, eq-eqb, ne-eqb}
+use native.Mathlib.Omega.{arith}
+use Rattle.logic.specs.Pick.{pick}
+use Rattle.logic.proofs.Bools.{both, whichever}
+use Rattle.party.specs.Record.{idle, begun}
+use Rattle.party.specs.Answer.{isRefusal, numberOf}
+use Rattle.party.specs.declared.Record.{Record}
+use Rattle.party.specs.declared.Answered.{Answered}
+use Rattle.party.specs.declared.Answer.{Answer}
+use Rattle.party.specs.declared.Answer.the-variants.{GoesOn}
+use Rattle.step.specs.Step.{stepOf, stepLeaves}
+use Rattle.step.specs.Call.{Call, partyOf, callOf}
+use Rattle.step.proofs.Cleared.{Steppable}
+use Rattle.step.proofs.Went.{GoneOn}
+use Rattle.fresh.proofs.Called.{Leaves, Called, called}
+use Rattle.history.specs.Run.{State, goesOn, isStep, looked, lineOf, leaves}
+use Rattle.history.specs.Finished.{Asked, nothingYet, askedAfter}
+use Rattle.history.proofs.Stepped.{Stepped, stepped}
+
+-- a refusal does not go on
+refusal-stops : (number : ℕ) → isRefusal number ≡ true → goesOn number ≡ false
+refusal-stops number refusal = ne-eqb number 0 (λ (e : number ≡ 0). true≢false (sym refusal ∙ rw e refl))
+
+-- who does not go on has not looked
+stops-unlooked : (s : State) (call : Call) (number : ℕ) → goesOn number ≡ false → looked s call number ≡ false
+stops-unlooked s (Call.start party operation order) number e = refl
+stops-unlooked s (Call.step party hint) number e = rw e refl
+stops-unlooked s (Call.withdraw party) number e = refl
+
+abbrev pub numberAt : State → Call → ℕ
+numberAt s call = numberOf (callOf (s .strip) (s .table) call .answer)
+
+-- a party that looks makes a step that goes on
+pub look-is-a-step : (s : State) (call : Call) → looked s call (numberAt s call) ≡ true
+    → (hint : ℕ) × (call ≡ Call.step (partyOf call) hint) × (numberAt s call ≡ 0)
+look-is-a-step s (Call.start party operation order) looks = absurd (true≢false (sym looks))
+look-is-a-step s (Call.step party hint) looks =
+    (hint, refl, eqb-true (numberAt s (Call.step party hint)) 0 (both (goesOn (numberAt s (Call.step party hint))) _ looks .0))
+look-is-a-step s (Call.withdraw party) looks = absurd (true≢false (sym looks))
+
+-- whether party i looks at this entry
+abbrev pub looksNow : State → Call → (i : ℕ) → Bool
+looksNow s call i = looked s call (numberAt s call) && eqb i (partyOf call)
+
+-- a step from stage 1 or 2 that goes on looks
+pub step-looks-now : (s : State) (i hint : ℕ) → numberAt s (Call.step i hint) ≡ 0
+    → (getD (s .table) i idle .stage ≡ 1) ⊎ (getD (s .table) i idle .stage ≡ 2) → looksNow s (Call.step i hint) i ≡ true
+step-looks-now s i hint none (inl one) = rw (none, one, eq-eqb i i refl) refl
+step-looks-now s i hint none (inr two) = rw (none, two, eq-eqb i i refl) refl
+
+-- What an entry makes of the party i, which was asked `was` and now is asked `is`: it is idle; it has just begun; or it goes on
+-- with what it was asked, and was at stage 2 or more if it is now and does not look at this entry.
+pub data After (s : State) (entry : ℕ) (call : Call) (i : ℕ) (was is : Asked) (r next : Record) : Type 0 where
+  idles : next ≡ idle → After s entry call i was is r next
+  begins : (operation order : ℕ) → next ≡ begun operation order
+      → is ≡ record { operation = operation; order = order; entry = entry } → After s entry call i was is r next
+  carries : is ≡ was → next .operation ≡ r .operation → next .v ≡ r .v → (1 ≤ next .stage → 1 ≤ r .stage)
+      → (looksNow s call i ≡ false → 2 ≤ next .stage → 2 ≤ r .stage) → After s entry call i was is r next
+
+module _ (s : State) (entry : ℕ) where
+  abbrev recordAt : ℕ → Record
+  recordAt i = getD (s .table) i idle
+
+  abbrev recordThen : Call → ℕ → Record
+  recordThen call i = getD (leaves s entry call .table) i idle
+
+  pub record-elsewhere : (call : Call) (i : ℕ) → (i ≡ partyOf call → ⊥) → recordThen call i ≡ recordAt i
+  unfolding leaves
+  record-elsewhere call i other = go (called (s .strip) (s .table) call)
+    where
+      elsewhere : (party : ℕ) (r : Record) → partyOf call ≡ party → getD (set (s .table) party r) i idle ≡ recordAt i
+      elsewhere party r is = getD-set-other (s .table) party i r idle (λ (e : i ≡ party). other (e ∙ sym is))
+
+      go : Called (s .strip) (s .table) call → getD (callOf (s .strip) (s .table) call .table) i idle ≡ recordAt i
+      go (Called.refuses number refusal left) = rw (left .table-is) refl
+      go (Called.starts party operation order is known clear left) = rw (left .table-is) (elsewhere party _ (ap partyOf is))
+      go (Called.withdraws party is known left) = rw (left .table-is) (elsewhere party _ (ap partyOf is))
+      go (Called.steps party hint is known clear on left) = rw (left .table-is) (elsewhere party _ (ap partyOf is))
+
+  -- a step from stage 1 or 2 that goes on looks; another one was past them
+  no-look-later : (call : Call) → isStep call ≡ true → numberAt s call ≡ 0 → 1 ≤ recordAt (partyOf call) .stage
+      → looksNow s call (partyOf call) ≡ false → 2 ≤ recordAt (partyOf call) .stage
+  no-look-later call step none busy now =
+      go (eqb stage 1) (eqb stage 2) refl refl (rw (step, none, eq-eqb (partyOf call) (partyOf call) refl) at now)
+    where
+      stage : ℕ
+      stage = recordAt (partyOf call) .stage
+
+      go : (one two : Bool) → eqb stage 1 ≡ one → eqb stage 2 ≡ two → (one || two) && true ≡ false → 2 ≤ stage
+      go true two e f h = absurd (true≢false h)
+      go false true e f h = absurd (true≢false h)
+      go false false e f h =
+          let not-one = eqb-false stage 1 e in
+          omega (arith, busy)
+
+  -- only a step of a known party looks
+  looked-known : (call : Call) → looked s call (numberAt s call) ≡ true → partyOf call < length (s .table)
+  looked-known call looks = go (called (s .strip) (s .table) call)
+    where
+      go : Called (s .strip) (s .table) call → partyOf call < length (s .table)
+      go (Called.refuses number refusal left) =
+          let stops = refusal-stops (numberAt s call) (ap (λ (a : Answer). isRefusal (numberOf a)) (left .answered) ∙ refusal) in
+          absurd (true≢false (sym looks ∙ stops-unlooked s call (numberAt s call) stops))
+      go (Called.starts party operation order is known clear left) = rw is known
+      go (Called.withdraws party is known left) = rw is known
+      go (Called.steps party hint is known clear on left) = rw is known
+
+  -- the last look of each party
+  pub look-after : length (s .looks) ≡ length (s .table) → (call : Call) (i : ℕ)
+      → getD (leaves s entry call .looks) i 0 ≡ pick (looksNow s call i) entry (getD (s .looks) i 0)
+  unfolding leaves
+  look-after size call i = go (looked s call (numberAt s call)) refl
+    where
+      party : ℕ
+      party = partyOf call
+
+      go : (look : Bool) → looked s call (numberAt s call) ≡ look
+          → getD (pick look (set (s .looks) party entry) (s .looks)) i 0 ≡ pick (look && eqb i party) entry (getD (s .looks) i 0)
+      go false e = refl
+      go true e = at (eqb i party) refl
+        where
+          at : (here : Bool) → eqb i party ≡ here → getD (set (s .looks) party entry) i 0 ≡ pick here entry (getD (s .looks) i 0)
+          at true h = rw (eqb-true i party h) (getD-set-same (s .looks) party entry 0 (rw size (looked-known call e)))
+          at false h = getD-set-other (s .looks) party i entry 0 (eqb-false i party h)
+
+  module _ (asked : List Asked) where
+    abbrev askedThen : Call → List Asked
+    askedThen call = askedAfter asked entry call (lineOf s entry call)
+
+    unchanged : (call : Call) (i : ℕ) → getD (askedThen call) i nothingYet ≡ getD asked i nothingYet
+        → recordThen call i ≡ recordAt i
+        → After s entry call i (getD asked i nothingYet) (getD (askedThen call) i nothingYet) (recordAt i) (recordThen call i)
+    unchanged call i same e =
+        carries same (ap (λ (r : Record). r .operation) e) (ap (λ (r : Record). r .v) e)
+        (subst (λ (r : Record). 1 ≤ r .stage) e) (λ not-now. subst (λ (r : Record). 2 ≤ r .stage) e)
+
+    -- a refused start asks nothing
+    asked-refused : (call : Call) → isRefusal (numberAt s call) ≡ true → askedThen call ≡ asked
+    unfolding lineOf
+    asked-refused (Call.start party operation order) refusal =
+        rw (refusal-stops (numberAt s (Call.start party operation order)) refusal) refl
+    asked-refused (Call.step party hint) refusal = refl
+    asked-refused (Call.withdraw party) refusal = refl
+
+    asked-elsewhere : (call : Call) (i : ℕ) → (i ≡ partyOf call → ⊥)
+        → getD (askedThen call) i nothingYet ≡ getD asked i nothingYet
+    unfolding lineOf
+    asked-elsewhere (Call.start party operation order) i other =
+        whichever (λ (l : List Asked). getD l i nothingYet ≡ getD asked i nothingYet)
+        (goesOn (numberAt s (Call.start party operation order)))
+        (getD-set-other asked party i (record { operation = operation; order = order; entry = entry }) nothingYet other) refl
+    asked-elsewhere (Call.step party hint) i other = refl
+    asked-elsewhere (Call.withdraw party) i other = refl
+
+    abbrev The : Call → ℕ → Type 0
+    The call i =
+        After s entry call i (getD asked i nothingYet) (getD (askedThen call) i nothingYet) (recordAt i) (recordThen call i)
+
+    start-after : (party operation order : ℕ) → party < length (s .table) → length asked ≡ length (s .table)
+        → Leaves (s .strip) (s .table) (Call.start party operation order) GoesOn (s .strip) (set (s .table) party (begun operation order))
+        → The (Call.start party operation order) party
+    unfolding leaves lineOf
+    start-after party operation order known size left =
+        begins operation order (rw (left .table-is) (getD-set-same (s .table) party (begun operation order) idle known))
+        (rw (left .answered)
+        (getD-set-same asked party (record { operation = operation; order = order; entry = entry }) nothingYet (rw size known)))
+
+    step-after : (party hint : ℕ) → party < length (s .table) → Steppable (length (s .strip)) (recordAt party) hint
+        → GoneOn (s .strip) (recordAt party) hint
+        → Leaves (s .strip) (s .table) (Call.step party hint) (stepOf (s .strip) (recordAt party) hint .answer)
+        (stepLeaves (s .strip) (recordAt party) hint) (set (s .table) party (stepOf (s .strip) (recordAt party) hint .rec))
+        → The (Call.step party hint) party
+    unfolding leaves
+    step-after party hint known clear on left = go (stepped (s .strip) r hint on)
+      where
+        r : Record
+        r = recordAt party
+
+        given : Answered
+        given = stepOf (s .strip) r hint
+
+        leaves-it : getD (callOf (s .strip) (s .table) (Call.step party hint) .table) party idle ≡ given .rec
+        leaves-it = rw (left .table-is) (getD-set-same (s .table) party (given .rec) idle known)
+
+        busy : 1 ≤ r .stage
+        busy = let some = eqb-false (r .stage) 0 (clear .busy) in omega arith
+
+        go : Stepped r given
+            → After s entry (Call.step party hint) party (getD asked party nothingYet) (getD asked party nothingYet) r
+            (getD (callOf (s .strip) (s .table) (Call.step party hint) .table) party idle)
+        go (Stepped.going-on none operation v to-2 to-3) =
+            carries refl (ap (λ (a : Record). a .operation) leaves-it ∙ operation) (ap (λ (a : Record). a .v) leaves-it ∙ v) (λ later. busy)
+            (λ now later. no-look-later (Call.step party hint) refl (ap numberOf (left .answered) ∙ none) busy now)
+        go (Stepped.acting number ended) = idles (leaves-it ∙ ended)
+        go (Stepped.filling number second ended) = idles (leaves-it ∙ ended)
+        go (Stepped.emptying number third ended) = idles (leaves-it ∙ ended)
+
+    withdraw-after : (party : ℕ) → party < length (s .table)
+        → Leaves (s .strip) (s .table) (Call.withdraw party) GoesOn (s .strip) (set (s .table) party idle) → The (Call.withdraw party) party
+    unfolding leaves
+    withdraw-after party known left = idles (rw (left .table-is) (getD-set-same (s .table) party idle idle known))
+
+    pub after-entry : length asked ≡ length (s .table) → (call : Call) (i : ℕ)
+        → After s entry call i (getD asked i nothingYet) (getD (askedAfter asked entry call (lineOf s entry call)) i nothingYet)
+        (getD (s .table) i idle) (getD (leaves s entry call .table) i idle)
+    unfolding leaves lineOf
+    after-entry size call i = go (eqb i (partyOf call)) refl
+      where
+        own : Called (s .strip) (s .table) call → The call (partyOf call)
+        own (Called.refuses number refusal left) =
+            unchanged call (partyOf call)
+            (ap (λ (l : List Asked). getD l (partyOf call) nothingYet) (asked-refused call (ap (λ (a : Answer). isRefusal (numberOf a)) (left .answered) ∙ refusal)))
+            (ap (λ (l : List Record). getD l (partyOf call) idle) (left .table-is))
+        own (Called.starts party operation order is known clear left) =
+            rw is (start-after party operation order known size (rw is at left))
+        own (Called.withdraws party is known left) = rw is (withdraw-after party known (rw is at left))
+        own (Called.steps party hint is known clear on left) = rw is (step-after party hint known clear on (rw is at left))
+
+        go : (here : Bool) → eqb i (partyOf call) ≡ here → The call i
+        go true e = subst (The call) (sym (eqb-true i (partyOf call) e)) (own (called (s .strip) (s .table) call))
+        go false e =
+            let other = eqb-false i (partyOf call) e in
+            unchanged call i (asked-elsewhere call i other) (record-elsewhere call i other)

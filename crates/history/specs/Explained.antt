@@ -1,0 +1,32 @@
+-- Demand 3: a schedule is explained by the plain strip.
+use Prim.Native.Nat.{ℕ, _<_, _≤_}
+use mathlib.Core.Path.{_≡_}
+use mathlib.Core.List.{List}
+use lib.ListN.{length, getD}
+use Rattle.party.specs.Answer.{numberOf, carriedOf}
+use Rattle.strip.specs.Plain.{Plain}
+use Rattle.fresh.specs.Play.{play}
+use Rattle.placing.specs.Placing.{inOrder, Plays}
+use Rattle.history.specs.Finished.{Finished}
+
+-- f, played on the plain strip p, gives f's number and carried order and leaves q
+pub record Gives (f : Finished) (p q : Plain) : Type 0 where
+  pub number : numberOf (play (f .operation) (f .order) p .answer) ≡ f .number
+  pub carried : carriedOf (play (f .operation) (f .order) p .answer) ≡ f .carried
+  pub plain : play (f .operation) (f .order) p .plain ≡ q
+
+-- the effect lies between the operation's start and its answer
+pub record Between (f : Finished) : Type 0 where
+  pub past-start : f .started < f .effect
+  pub by-answer : f .effect ≤ f .answered
+
+abbrev pub none : Finished
+none = record { operation = 0; order = 0; number = 0; carried = 0; started = 0; effect = 0; answered = 0 }
+
+-- The finished operations, each answered by one of the entries and each with an effect of its own, played on the first plain strip
+-- in the order of their effects, give every answer and end at the last plain strip.
+pub record Explained (first : Plain) (finished : List Finished) (entries : ℕ) (last : Plain) : Type 0 where
+  pub answered : (i : ℕ) → i < length finished → getD finished i none .answered < entries
+  pub between : (i : ℕ) → i < length finished → Between (getD finished i none)
+  pub apart : (i j : ℕ) → i < j → j < length finished → getD finished i none .effect ≡ getD finished j none .effect → ⊥
+  pub played : Plays Gives first (inOrder (λ (f : Finished). f .effect) entries finished) last

@@ -1,0 +1,4 @@
+pub mod Run
+pub mod Finished
+pub mod Explained
+pub mod Accounts

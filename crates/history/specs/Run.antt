@@ -1,0 +1,77 @@
+-- A run: a list of calls, the entries of a schedule, one after the other, each with its line.
+use Prim.Native.Nat.{ℕ, suc}
+use mathlib.Core.Bool.{Bool, true, false, _&&_, _||_}
+use mathlib.Core.List.{List, [], _∷_}
+use lib.ListN.{getD, set, replicate}
+use lib.Dec.{eqb}
+use Rattle.logic.specs.Pick.{pick}
+use Rattle.party.specs.Record.{idle}
+use Rattle.party.specs.Answer.{numberOf, carriedOf}
+use Rattle.party.specs.declared.Record.{Record}
+use Rattle.step.specs.Call.{Call, Left, partyOf, recordOf, callOf}
+
+-- stands for what is past the end of a list of calls
+abbrev pub noCall : Call
+noCall = Call.withdraw 0
+
+-- the strip, the table, and for each party the entry of its last look in stage 1 or 2
+pub record State : Type 0 where
+  pub strip : List ℕ
+  pub table : List Record
+  pub looks : List ℕ
+
+-- a strip with every party idle
+abbrev pub begin : (strip : List ℕ) (parties : ℕ) → State
+begin strip parties = record { strip = strip; table = replicate parties idle; looks = replicate parties 0 }
+
+-- what an entry's line says: the number, the carried order, and the entry where the operation took effect, if it did
+pub record Line : Type 0 where
+  pub number : ℕ
+  pub carried : ℕ
+  pub effect : ℕ
+
+abbrev pub goesOn : (number : ℕ) → Bool
+goesOn number = eqb number 0
+
+abbrev pub isStep : Call → Bool
+isStep (Call.start party operation order) = false
+isStep (Call.step party hint) = true
+isStep (Call.withdraw party) = false
+
+-- a step that goes on from stage 1 or 2 has looked: an answer FULL or EMPTY will name its entry
+abbrev pub looked : State → Call → (number : ℕ) → Bool
+looked s call number =
+    isStep call && goesOn number
+    && (eqb (recordOf (s .table) call .stage) 1 || eqb (recordOf (s .table) call .stage) 2)
+
+-- PUSHED and POPPED took effect at the answering entry, FULL and EMPTY at the party's last look
+abbrev pub effectOf : State → (entry : ℕ) → Call → (number : ℕ) → ℕ
+effectOf s entry call number = pick (eqb number 18 || eqb number 19) (getD (s .looks) (partyOf call) 0) entry
+
+abbrev pub after : State → Call → Left
+after s call = callOf (s .strip) (s .table) call
+
+unfoldable pub lineOf : State → (entry : ℕ) → Call → Line
+lineOf s entry call =
+    record {
+      number = numberOf (after s call .answer);
+      carried = carriedOf (after s call .answer);
+      effect = effectOf s entry call (numberOf (after s call .answer));
+    }
+
+unfoldable pub leaves : State → (entry : ℕ) → Call → State
+leaves s entry call =
+    record {
+      strip = after s call .strip;
+      table = after s call .table;
+      looks = pick (looked s call (numberOf (after s call .answer))) (set (s .looks) (partyOf call) entry) (s .looks);
+    }
+
+-- from entry number `entry` on: the lines, and the state at the end
+unfoldable pub linesFrom : State → (entry : ℕ) → List Call → List Line
+linesFrom s entry [] = []
+linesFrom s entry (call ∷ calls) = lineOf s entry call ∷ linesFrom (leaves s entry call) (suc entry) calls
+
+unfoldable pub endFrom : State → (entry : ℕ) → List Call → State
+endFrom s entry [] = s
+endFrom s entry (call ∷ calls) = endFrom (leaves s entry call) (suc entry) calls

@@ -1,0 +1,1 @@
+// Every schedule is explained by the plain strip. No function stands here.

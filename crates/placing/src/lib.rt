@@ -1,0 +1,1 @@
+// From facts about single entries to whole histories, for any machine. No function stands here.
