@@ -1,0 +1,52 @@
+-- What the calls on an image keep: a promise leaves nothing open, and a refused call changes no byte.
+use Prim.Native.Nat.{ℕ}
+use mathlib.Core.Path.{_≡_, refl, sym, _∙_}
+use mathlib.Core.Bool.{true, not, true≢false}
+use mathlib.Core.List.{List}
+use lib.ListN.{length}
+use lib.Dec.{eqb}
+use Rattle.logic.proofs.Bools.{whichever}
+use Rattle.party.specs.Answer.{isRefusal, numberOf, carriedOf}
+use Rattle.party.specs.declared.Answer.{Answer}
+use Rattle.step.specs.Call.{Call}
+use Rattle.step.proofs.Calls.{refused-call-changes-nothing}
+use Rattle.image.specs.Format.{headerRefusal}
+use Rattle.image.specs.Spelling.{stripOf, tableOf}
+use Rattle.image.specs.Calls.{Done, spareRefused, imageOf, layRefusal, layOf, ImagePromise}
+use Rattle.little.proofs.Digits.{AreBytes}
+use Rattle.image.proofs.Spelled.{decoded-is-spelled}
+
+-- Two results that keep one promise have the same number, carried order and bytes.
+pub record Same (one : Answer) (left : List ℕ) (two : Answer) (other : List ℕ) : Type 0 where
+  pub number : numberOf one ≡ numberOf two
+  pub carried : carriedOf one ≡ carriedOf two
+  pub bytes : left ≡ other
+
+pub two-images-that-keep-it-are-equal : {wanted : Done} {one two : Answer} {left other : List ℕ}
+    → ImagePromise wanted one left → ImagePromise wanted two other → Same one left two other
+two-images-that-keep-it-are-equal p q =
+    record {
+      number = p .number ∙ sym (q .number);
+      carried = p .carried ∙ sym (q .carried);
+      bytes = p .bytes ∙ sym (q .bytes);
+    }
+
+-- A refused call carries no order and leaves every byte.
+abbrev pub RefusedLeaves : List ℕ → Done → Type 0
+RefusedLeaves image done =
+    isRefusal (numberOf (done .answer)) ≡ true → (carriedOf (done .answer) ≡ 0) × (done .image ≡ image)
+
+pub refused-image-call-changes-nothing : (image : List ℕ) (call : Call) → AreBytes image → RefusedLeaves image (imageOf image call)
+unfolding imageOf
+refused-image-call-changes-nothing image call are =
+    whichever (RefusedLeaves image) (not (eqb (headerRefusal image) 0)) (λ h. (refl, refl))
+    (whichever (RefusedLeaves image) (spareRefused image call) (λ h. (refl, refl))
+    (λ h.
+    let kept = refused-call-changes-nothing (stripOf image) (tableOf image) call h in
+    (kept .carried, rw (kept .strip-kept, kept .table-kept) (decoded-is-spelled image are))))
+
+pub refused-lay-changes-nothing : (image : List ℕ) (max parties divide : ℕ) → RefusedLeaves image (layOf image max parties divide)
+unfolding layOf
+refused-lay-changes-nothing image max parties divide =
+    whichever (RefusedLeaves image) (eqb (layRefusal (length image) max parties divide) 0)
+    (λ h. absurd (true≢false (sym h))) (λ h. (refl, refl))

@@ -1,0 +1,14 @@
+pub mod Parts
+pub mod Words
+pub mod Records
+pub mod Made
+pub mod Widths
+pub mod Accepted
+pub mod Gated
+pub mod Spelled
+pub mod Called
+pub mod Owned
+pub mod Promised
+pub mod Laying
+pub mod Laid
+pub mod Kept

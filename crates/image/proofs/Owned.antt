@@ -1,0 +1,223 @@
+-- Start, step and withdraw on an image past the checks before the record's own: what each does, as the code finds it.
+use Prim.Native.Nat.{ℕ, _+_, _<_}
+use mathlib.Core.Path.{_≡_, refl, sym, _∙_, ap, subst}
+use mathlib.Core.Bool.{Bool, false}
+use mathlib.Core.List.{List}
+use lib.ListN.{length, getD}
+use lib.Dec.{eqb, ltb}
+use borrow.Author.Tests.{ne-eqb, ltb-false}
+use native.Mathlib.Omega.{arith}
+use Rattle.logic.proofs.Bools.{whichever}
+use Rattle.word.specs.Word.{raisedTo}
+use Rattle.word.specs.Swap.{swapOf, wordsAfter}
+use Rattle.word.specs.declared.Swapped.{Swapped}
+use Rattle.word.specs.declared.Swapped.the-variants.{Won, Lost, Stuck}
+use Rattle.word.proofs.Laws.{SwapGoes, swap-goes}
+use Rattle.party.specs.Operation.{isPush, isRight}
+use Rattle.party.specs.Record.{idle, begun}
+use Rattle.party.specs.Answer.{goesOn, refused}
+use Rattle.party.specs.Calls.{startOwn, startRefusal, startOf, withdrawOwn, withdrawRefusal, withdrawOf}
+use Rattle.party.specs.declared.Record.{Record}
+use Rattle.party.specs.declared.Answer.the-variants.{GoesOn}
+use Rattle.party.proofs.Cleared.{max-within}
+use Rattle.step.specs.Table.{near, own, lineOf}
+use Rattle.step.specs.Follow.{lookedOf, swappedOf}
+use Rattle.step.specs.Step.{maxOf, stepOwn, stepRefusal, aimed, stepOf, stepLeaves}
+use Rattle.step.specs.Call.{Call}
+use Rattle.step.specs.declared.Line.{Line}
+use Rattle.step.specs.declared.Line.the-variants.{Look, Swap}
+use Rattle.step.specs.declared.AfterLook.{AfterLook}
+use Rattle.step.specs.declared.AfterLook.the-variants.{Remember}
+use Rattle.step.specs.declared.AfterSwap.{AfterSwap}
+use Rattle.step.proofs.Cleared.{Steppable, steppable, placeOf, place-inside, hint-fits-k}
+use Rattle.step.proofs.Lines.{when-refused, when-looks, when-swaps}
+use Rattle.step.proofs.Stages.{aimed-later}
+use Rattle.little.specs.Bytes.{numberAt}
+use Rattle.image.specs.Format.{wordPlace, maxAt}
+use Rattle.image.specs.Spelling.{stripOf, RecordFits}
+use Rattle.image.specs.Read.{namedRefusal, recorded, swapRecorded, metAt}
+use Rattle.image.specs.Calls.{unchanged, imageOf}
+use Rattle.little.proofs.Digits.{AreBytes, number-fits}
+use Rattle.image.proofs.Words.{WordFits}
+use Rattle.image.proofs.Widths.{read-record-fits, idle-fits, begun-fits, aimed-fits, looked-fits, swapped-fits}
+use Rattle.image.proofs.Gated.{named-fits}
+use Rattle.image.proofs.Spelled.{strip-length, word-is-read}
+use Rattle.image.proofs.Called.{strip-fits, max-of, placeIn, recordIn, own-refused, own-recorded, own-swapped}
+
+module _ (image : List ℕ) (party operation order : ℕ) (are : AreBytes image)
+    (clear : namedRefusal image (ltb 3 operation) party ≡ 0) where
+  abbrev starting : Call
+  starting = Call.start party operation order
+
+  start-own-is : startRefusal (maxOf (length (stripOf image))) (recordIn image starting) operation order
+      ≡ startOwn (maxAt image) (recordIn image starting) operation order
+  unfolding startRefusal
+  start-own-is =
+      let fits = named-fits image (ltb 3 operation) party clear in
+      rw (max-of image, fits .sized-right .max-fits, fits .known) refl
+
+  pub start-refused : (startOwn (maxAt image) (recordIn image starting) operation order ≡ 0 → ⊥)
+      → imageOf image starting ≡ unchanged (startOwn (maxAt image) (recordIn image starting) operation order) image
+  unfolding startOf
+  start-refused some =
+      own-refused image starting are clear _ (rw (start-own-is, ne-eqb _ 0 some) refl, refl)
+
+  pub start-done : startOwn (maxAt image) (recordIn image starting) operation order ≡ 0 → order < 4294967296
+      → imageOf image starting ≡ record { answer = GoesOn; image = recorded image (placeIn image starting) (goesOn (begun operation order)) }
+  unfolding startOf
+  start-done none narrow =
+      let known = ltb-false 3 operation (named-fits image (ltb 3 operation) party clear .known) in
+      own-recorded image starting are clear (goesOn (begun operation order)) (rw (start-own-is, none) refl, refl)
+      (begun-fits operation order (omega arith) narrow)
+
+module _ (image : List ℕ) (party : ℕ) (are : AreBytes image) (clear : namedRefusal image false party ≡ 0) where
+  abbrev withdrawing : Call
+  withdrawing = Call.withdraw party
+
+  withdraw-own-is : withdrawRefusal (maxOf (length (stripOf image))) (recordIn image withdrawing)
+      ≡ withdrawOwn (maxAt image) (recordIn image withdrawing)
+  unfolding withdrawRefusal
+  withdraw-own-is = rw (max-of image, named-fits image false party clear .sized-right .max-fits) refl
+
+  pub withdraw-refused : (withdrawOwn (maxAt image) (recordIn image withdrawing) ≡ 0 → ⊥)
+      → imageOf image withdrawing ≡ unchanged (withdrawOwn (maxAt image) (recordIn image withdrawing)) image
+  unfolding withdrawOf
+  withdraw-refused some =
+      own-refused image withdrawing are clear _ (rw (withdraw-own-is, ne-eqb _ 0 some) refl, refl)
+
+  pub withdraw-done : withdrawOwn (maxAt image) (recordIn image withdrawing) ≡ 0
+      → imageOf image withdrawing ≡ record { answer = GoesOn; image = recorded image (placeIn image withdrawing) (goesOn idle) }
+  unfolding withdrawOf
+  withdraw-done none =
+      own-recorded image withdrawing are clear (goesOn idle) (rw (withdraw-own-is, none) refl, refl) idle-fits
+
+-- what a swap of a line goes from and to fits its width
+abbrev LineFits : Line → Type 0
+LineFits (Look place then) = Unit {0}
+LineFits (Swap place from to then) = WordFits from × (to < 4294967296)
+
+line-fits : (r : Record) → RecordFits r → LineFits (lineOf r)
+unfolding lineOf
+line-fits r fits =
+    whichever LineFits (eqb (r .stage) 1) tt
+    (whichever LineFits (eqb (r .stage) 2) tt
+    (whichever LineFits (eqb (r .stage) 3) tt
+    (whichever LineFits (eqb (r .stage) 4)
+    (whichever LineFits push (omega (arith, fits)) (fits .second-fits, null))
+    (whichever LineFits push (omega (arith, fits)) (fits .first-fits, null)))))
+  where
+    push : Bool
+    push = isPush (r .operation)
+
+    null : own r < 4294967296
+    null = whichever (λ (n : ℕ). n < 4294967296) (isRight (r .operation)) (omega arith) (omega arith)
+
+-- a line that swaps is of a later stage than 1
+swap-is-later : (r : Record) (place from to : ℕ) (then : AfterSwap) → lineOf r ≡ Swap place from to then → r .stage ≡ 1 → ⊥
+unfolding lineOf
+swap-is-later r place from to then line s =
+    let looks : Look (near r) Remember ≡ Swap place from to then = rw s at line in
+    let z : _≡_ {A = ℕ} 0 1 = cc in
+    omega arith
+
+module _ (image : List ℕ) (party hint : ℕ) (are : AreBytes image) (clear : namedRefusal image false party ≡ 0) where
+  abbrev stepping : Call
+  stepping = Call.step party hint
+
+  abbrev before : Record
+  before = recordIn image stepping
+
+  step-own-is : stepRefusal (length (stripOf image)) before hint ≡ stepOwn (maxAt image) before hint
+  unfolding stepRefusal
+  step-own-is =
+      let fits = named-fits image false party clear in
+      rw (max-of image, strip-length image, strip-fits (maxAt image) (max-within (maxAt image) (fits .sized-right .max-fits))) refl
+
+  pub step-refused : (stepOwn (maxAt image) before hint ≡ 0 → ⊥)
+      → imageOf image stepping ≡ unchanged (stepOwn (maxAt image) before hint) image
+  step-refused some =
+      let step = when-refused (stripOf image) before hint (λ e. some (sym step-own-is ∙ e)) in
+      own-refused image stepping are clear _ (step .0 ∙ ap (λ (n : ℕ). refused n before) step-own-is, step .1)
+
+  module _ (none : stepOwn (maxAt image) before hint ≡ 0) where
+    passes : stepRefusal (length (stripOf image)) before hint ≡ 0
+    passes = step-own-is ∙ none
+
+    cleared : Steppable (length (stripOf image)) before hint
+    cleared = steppable (length (stripOf image)) before hint passes
+
+    -- the hint that stage 1 takes fits k
+    pub hint-fits : before .stage ≡ 1 → hint < 65536
+    hint-fits = hint-fits-k (length (stripOf image)) before hint cleared
+
+    aim-fits : RecordFits (aimed before hint)
+    aim-fits = aimed-fits before hint (read-record-fits image (placeIn image stepping) are) hint-fits
+
+    module _ (at : Record) (a : at ≡ aimed before hint) where
+      -- the place of the line is inside the strip
+      pub line-inside : (l : Line) → lineOf at ≡ l → placeOf l < maxAt image + 2
+      line-inside l line =
+          subst (λ (m : Line). placeOf m < maxAt image + 2) (ap lineOf (sym a) ∙ line)
+          (subst (λ (words : ℕ). placeOf (lineOf (aimed before hint)) < words) (strip-length image)
+          (place-inside (length (stripOf image)) before hint cleared))
+
+      at-fits : RecordFits at
+      at-fits = subst RecordFits (sym a) aim-fits
+
+      pub step-looked : (place : ℕ) (then : AfterLook) → lineOf at ≡ Look place then
+          → imageOf image stepping ≡ record {
+            answer = lookedOf (maxAt image) at then (numberAt 8 image (wordPlace place)) .answer;
+            image = recorded image (placeIn image stepping) (lookedOf (maxAt image) at then (numberAt 8 image (wordPlace place)));
+          }
+      step-looked place then line =
+          let word = numberAt 8 image (wordPlace place) in
+          let seen = word-is-read image place (line-inside (Look place then) line) in
+          let step = when-looks (stripOf image) before at hint passes a place then word line (sym seen) in
+          own-recorded image stepping are clear (lookedOf (maxAt image) at then word)
+          (sym (step .0) ∙ ap (λ (max : ℕ). lookedOf max at then word) (max-of image), sym (step .1))
+          (looked-fits (maxAt image) at at-fits then word (number-fits 8 image (wordPlace place) are))
+
+      pub step-swapped : (place from to : ℕ) (then : AfterSwap) → lineOf at ≡ Swap place from to then
+          → imageOf image stepping ≡ record {
+            answer = swappedOf at then (metAt image place from) .answer;
+            image = swapRecorded (metAt image place from) image (placeIn image stepping) place (raisedTo from to) (swappedOf at then (metAt image place from));
+          }
+      step-swapped place from to then line = go (swap-goes (numberAt 8 image (wordPlace place)) from)
+        where
+          inside : place < maxAt image + 2
+          inside = line-inside (Swap place from to then) line
+
+          Went : Swapped → Type 0
+          Went met = imageOf image stepping ≡ record {
+            answer = swappedOf at then met .answer;
+            image = swapRecorded met image (placeIn image stepping) place (raisedTo from to) (swappedOf at then met);
+          }
+
+          owned : (met : Swapped) → metAt image place from ≡ met
+              → (swappedOf at then met ≡ stepOf (stripOf image) before hint)
+              × (wordsAfter met (stripOf image) place (raisedTo from to) ≡ stepLeaves (stripOf image) before hint)
+          owned met e =
+              let same : met ≡ swapOf (getD (stripOf image) place 0) from =
+              sym e ∙ ap (λ (w : ℕ). swapOf w from) (sym (word-is-read image place inside)) in
+              when-swaps (stripOf image) before at hint passes a place from to then met
+              (wordsAfter met (stripOf image) place (raisedTo from to)) line
+              (record { answered = same; words = ap (λ (t : Swapped). wordsAfter t (stripOf image) place (raisedTo from to)) same })
+
+          fitting : LineFits (Swap place from to then)
+          fitting = subst LineFits line (line-fits at at-fits)
+
+          go : SwapGoes (numberAt 8 image (wordPlace place)) from → Went (metAt image place from)
+          go (SwapGoes.won same unended e) =
+              let step = owned Won e in
+              subst Went (sym e)
+              (own-swapped image stepping are clear (swappedOf at then Won) place (raisedTo from to)
+              (sym (step .0), sym (step .1)) (swapped-fits at at-fits then Won) (omega (arith, fitting, unended)) inside)
+          go (SwapGoes.lost other e) =
+              let met = numberAt 8 image (wordPlace place) in
+              let step = owned (Lost met) e in
+              subst Went (sym e)
+              (own-recorded image stepping are clear (swappedOf at then (Lost met)) (sym (step .0), sym (step .1)) (swapped-fits at at-fits then (Lost met)))
+          go (SwapGoes.stuck same ended e) =
+              let step = owned Stuck e in
+              let later = aimed-later before hint (λ s. swap-is-later at place from to then line (ap (λ (r : Record). r .stage) a ∙ s)) in
+              subst Went (sym e) (own-refused image stepping are clear 9 (sym (step .0) ∙ ap (refused 9) (a ∙ sym later), sym (step .1)))

@@ -1,0 +1,175 @@
+-- The promises of start, step and withdraw, from what the code finds on its way.
+use Prim.Native.Nat.{ℕ, _+_, _≤_, _<_}
+use mathlib.Core.Path.{_≡_, refl, sym, _∙_, ap}
+use mathlib.Core.Bool.{false}
+use mathlib.Core.List.{List}
+use lib.ListN.{length}
+use lib.Seq.{sets}
+use lib.Dec.{ltb}
+use native.Mathlib.Omega.{arith}
+use Rattle.party.specs.Record.{idle, begun}
+use Rattle.party.specs.Answer.{numberOf, carriedOf}
+use Rattle.party.specs.Calls.{startOwn, withdrawOwn}
+use Rattle.party.specs.declared.Record.{Record}
+use Rattle.party.specs.declared.Answer.{Answer}
+use Rattle.party.specs.declared.Answer.the-variants.{GoesOn, Refused}
+use Rattle.step.specs.Table.{lineOf}
+use Rattle.step.specs.Step.{stepOwn, aimed}
+use Rattle.step.specs.Call.{Call, partyOf, isUnknown}
+use Rattle.step.specs.declared.Line.{Line}
+use Rattle.step.specs.declared.Line.the-variants.{Look, Swap}
+use Rattle.step.specs.declared.AfterLook.{AfterLook}
+use Rattle.step.specs.declared.AfterSwap.{AfterSwap}
+use Rattle.step.proofs.Cleared.{placeOf}
+use Rattle.image.specs.Format.{wordPlace, maxAt}
+use Rattle.image.specs.Spelling.{recordAt, recordBytes}
+use Rattle.image.specs.Read.{NamedRead, namedRefusal, LookMade, SwapMade}
+use Rattle.image.specs.Calls.{Done, imageOf, ImagePromise}
+use Rattle.image.specs.declared.Named.{Named}
+use Rattle.little.proofs.Digits.{AreBytes}
+use Rattle.image.proofs.Gated.{named-fits}
+use Rattle.image.proofs.Called.{stopped, placeIn, recordIn}
+use Rattle.image.proofs.Owned.{start-refused, start-done, withdraw-refused, withdraw-done, step-refused, hint-fits, line-inside, step-looked, step-swapped}
+
+-- a call that leaves what is wanted keeps its promise
+pub promise : {wanted : Done} {answer : Answer} {left : List ℕ} → wanted ≡ record { answer = answer; image = left }
+    → ImagePromise wanted answer left
+promise e =
+    record {
+      number = ap (λ (d : Done). numberOf (d .answer)) (sym e);
+      carried = ap (λ (d : Done). carriedOf (d .answer)) (sym e);
+      bytes = ap (λ (d : Done). d .image) (sym e);
+    }
+
+module _ (image : List ℕ) (call : Call) (found : Named) (are : AreBytes image)
+    (read : NamedRead image (isUnknown call) (partyOf call) found) where
+  -- refused before the record's own checks
+  pub keeps-stopped : (found .number ≡ 0 → ⊥) → ImagePromise (imageOf image call) (Refused (found .number)) image
+  keeps-stopped some =
+      let e = read .number-read in
+      promise
+      (stopped image call are (λ z. some (e ∙ z)) ∙ ap (λ (n : ℕ). record { answer = Refused n; image = image }) (sym e))
+
+  module _ (zero : found .number ≡ 0) where
+    pub clear : namedRefusal image (isUnknown call) (partyOf call) ≡ 0
+    clear = sym (read .number-read) ∙ zero
+
+    pub at-is : found .at ≡ placeIn image call
+    at-is = read .at-read clear
+
+    pub max-is : found .max ≡ maxAt image
+    max-is = read .max-read clear
+
+    -- the named record is inside the image
+    pub room : found .at + 32 ≤ length image
+    room =
+        let fits = named-fits image (isUnknown call) (partyOf call) clear in
+        omega (arith, at-is, fits .sized-right .exact, fits .party-known)
+
+module _ (image : List ℕ) (party operation order : ℕ) (found : Named) (are : AreBytes image)
+    (read : NamedRead image (ltb 3 operation) party found) (zero : found .number ≡ 0)
+    (r : Record) (r-is : r ≡ recordAt image (found .at)) (number : ℕ) (number-is : number ≡ startOwn (found .max) r operation order) where
+  abbrev starting : Call
+  starting = Call.start party operation order
+
+  own-start : number ≡ startOwn (maxAt image) (recordIn image starting) operation order
+  own-start =
+      let at = at-is image starting found are read zero in
+      let max = max-is image starting found are read zero in
+      number-is ∙ rw (r-is, at, max) refl
+
+  pub keeps-start-refused : (number ≡ 0 → ⊥) → ImagePromise (imageOf image starting) (Refused number) image
+  keeps-start-refused some =
+      promise
+      (start-refused image party operation order are (clear image starting found are read zero) (λ z. some (own-start ∙ z))
+      ∙ ap (λ (n : ℕ). record { answer = Refused n; image = image }) (sym own-start))
+
+  pub keeps-start-done : number ≡ 0 → order < 4294967296 → (left : List ℕ) → left ≡ sets image (found .at) (recordBytes (begun operation order))
+      → ImagePromise (imageOf image starting) GoesOn left
+  keeps-start-done none narrow left e =
+      let at = at-is image starting found are read zero in
+      promise
+      (start-done image party operation order are (clear image starting found are read zero) (sym own-start ∙ none) narrow
+      ∙ ap (λ (l : List ℕ). record { answer = GoesOn; image = l }) (sym (e ∙ rw at refl)))
+
+module _ (image : List ℕ) (party : ℕ) (found : Named) (are : AreBytes image)
+    (read : NamedRead image false party found) (zero : found .number ≡ 0)
+    (r : Record) (r-is : r ≡ recordAt image (found .at)) (number : ℕ) (number-is : number ≡ withdrawOwn (found .max) r) where
+  abbrev withdrawing : Call
+  withdrawing = Call.withdraw party
+
+  own-withdraw : number ≡ withdrawOwn (maxAt image) (recordIn image withdrawing)
+  own-withdraw =
+      let at = at-is image withdrawing found are read zero in
+      let max = max-is image withdrawing found are read zero in
+      number-is ∙ rw (r-is, at, max) refl
+
+  pub keeps-withdraw-refused : (number ≡ 0 → ⊥) → ImagePromise (imageOf image withdrawing) (Refused number) image
+  keeps-withdraw-refused some =
+      promise
+      (withdraw-refused image party are (clear image withdrawing found are read zero) (λ z. some (own-withdraw ∙ z))
+      ∙ ap (λ (n : ℕ). record { answer = Refused n; image = image }) (sym own-withdraw))
+
+  pub keeps-withdraw-done : number ≡ 0 → (left : List ℕ) → left ≡ sets image (found .at) (recordBytes idle)
+      → ImagePromise (imageOf image withdrawing) GoesOn left
+  keeps-withdraw-done none left e =
+      let at = at-is image withdrawing found are read zero in
+      promise
+      (withdraw-done image party are (clear image withdrawing found are read zero) (sym own-withdraw ∙ none)
+      ∙ ap (λ (l : List ℕ). record { answer = GoesOn; image = l }) (sym (e ∙ rw at refl)))
+
+module _ (image : List ℕ) (party hint : ℕ) (found : Named) (are : AreBytes image)
+    (read : NamedRead image false party found) (zero : found .number ≡ 0)
+    (r : Record) (r-is : r ≡ recordAt image (found .at)) (number : ℕ) (number-is : number ≡ stepOwn (found .max) r hint) where
+  abbrev stepping : Call
+  stepping = Call.step party hint
+
+  abbrev spot : found .at ≡ placeIn image stepping
+  spot = at-is image stepping found are read zero
+
+  abbrev named : namedRefusal image false party ≡ 0
+  named = clear image stepping found are read zero
+
+  abbrev wide : found .max ≡ maxAt image
+  wide = max-is image stepping found are read zero
+
+  r-in : r ≡ recordIn image stepping
+  r-in = r-is ∙ rw spot refl
+
+  own-step : number ≡ stepOwn (maxAt image) (recordIn image stepping) hint
+  own-step = number-is ∙ rw (r-in, wide) refl
+
+  pub keeps-step-refused : (number ≡ 0 → ⊥) → ImagePromise (imageOf image stepping) (Refused number) image
+  keeps-step-refused some =
+      promise
+      (step-refused image party hint are named (λ z. some (own-step ∙ z))
+      ∙ ap (λ (n : ℕ). record { answer = Refused n; image = image }) (sym own-step))
+
+  module _ (none : number ≡ 0) where
+    pub hint-fits-k : r .stage ≡ 1 → hint < 65536
+    hint-fits-k s = hint-fits image party hint are named (sym own-step ∙ none) (ap (λ (x : Record). x .stage) (sym r-in) ∙ s)
+
+    module _ (at : Record) (a : at ≡ aimed r hint) where
+      aim-is : at ≡ aimed (recordIn image stepping) hint
+      aim-is = a ∙ ap (λ (x : Record). aimed x hint) r-in
+
+      -- the word of the line is inside the image
+      pub line-room : (l : Line) → lineOf at ≡ l → wordPlace (placeOf l) + 8 ≤ length image
+      line-room l line =
+          let fits = named-fits image false party named in
+          let inside = line-inside image party hint are named (sym own-step ∙ none) at aim-is l line in
+          omega (arith, fits .sized-right .exact, inside)
+
+      pub keeps-look : (place : ℕ) (then : AfterLook) → lineOf at ≡ Look place then → {answer : Answer} {left : List ℕ}
+          → LookMade image (found .at) (found .max) at place then answer left → ImagePromise (imageOf image stepping) answer left
+      keeps-look place then line made =
+          promise
+          (step-looked image party hint are named (sym own-step ∙ none) at aim-is place then line
+          ∙ sym (rw (made .answered, made .bytes-left, spot, wide) refl))
+
+      pub keeps-swap : (place from to : ℕ) (then : AfterSwap) → lineOf at ≡ Swap place from to then → {answer : Answer} {left : List ℕ}
+          → SwapMade image (found .at) at place from to then answer left → ImagePromise (imageOf image stepping) answer left
+      keeps-swap place from to then line made =
+          promise
+          (step-swapped image party hint are named (sym own-step ∙ none) at aim-is place from to then line
+          ∙ sym (rw (made .answered, made .bytes-left, spot) refl))

@@ -1,0 +1,4 @@
+pub mod Format
+pub mod Spelling
+pub mod Read
+pub mod Calls

@@ -1,0 +1,117 @@
+// The image: four calls on lent bytes.
+pub mod fresh;
+pub mod gate;
+pub mod line;
+pub mod memory;
+pub mod record;
+
+use crate::fresh::lay_header;
+use crate::fresh::lay_refusal;
+use crate::fresh::lay_words;
+use crate::fresh::lay_zeros;
+use crate::gate::read_named;
+use crate::line::make_look;
+use crate::line::make_swap;
+use crate::record::read_record;
+use crate::record::write_record;
+use party::Answer;
+use party::make::begun_record;
+use party::make::idle_record;
+use party::start_own;
+use party::withdraw_own;
+use step::Line;
+use step::aim;
+use step::step_own;
+use step::table::line;
+ghost use Rattle.step.specs.Call.{Call};
+ghost use Rattle.image.specs.Calls.{layOf, imageOf, ImagePromise};
+
+// A header: its refusal, 0 for none, and MAX and the party count of one that is taken.
+pub struct Header {
+    pub number: u32,
+    pub max: u16,
+    pub parties: u8,
+}
+
+// The named party's record: its refusal, 0 for none, and of one that is not refused MAX and where the record stands.
+pub struct Named {
+    pub number: u32,
+    pub max: u16,
+    pub at: usize,
+}
+
+// Lay: a fresh image. It looks at the length only, at no byte already there.
+pub fn lay(image: &mut [u8], max: u32, parties: u32, divide: u32) -> Answer
+    ensures { λ a. ⌜ ImagePromise (layOf (now (image .entry)) max parties divide) a (now (image .exit)) ⌝ }
+{
+    let number = lay_refusal(image.len(), max, parties, divide);
+    if number != 0 {
+        return Answer::Refused(number);
+    }
+    lay_header(image, max as u16, parties as u8);
+    lay_words(image, max as u16, divide);
+    lay_zeros(image, 8 + 8 * (max as usize + 2), 32 * (parties as usize));
+    Answer::GoesOn
+}
+
+// Start: operation and order into the named party's idle record.
+pub fn start(image: &mut [u8], party: u32, operation: u32, order: u32) -> Answer
+    ensures { λ a. ⌜ ImagePromise (imageOf (now (image .entry)) (Call.start party operation order)) a (now (image .exit)) ⌝ }
+{
+    let found = read_named(image, 3 < operation, party);
+    if found.number != 0 {
+        return Answer::Refused(found.number);
+    }
+    let r = read_record(image, found.at);
+    let number = start_own(found.max, r, operation as u8, order);
+    if number != 0 {
+        return Answer::Refused(number);
+    }
+    write_record(image, found.at, begun_record(operation as u8, order));
+    Answer::GoesOn
+}
+
+// Step: one access to the strip, and what follows it.
+pub fn step(image: &mut [u8], party: u32, hint: u32) -> Answer
+    ensures { λ a. ⌜ ImagePromise (imageOf (now (image .entry)) (Call.step party hint)) a (now (image .exit)) ⌝ }
+{
+    let found = read_named(image, false, party);
+    if found.number != 0 {
+        return Answer::Refused(found.number);
+    }
+    let r = read_record(image, found.at);
+    let number = step_own(found.max, r, hint);
+    if number != 0 {
+        return Answer::Refused(number);
+    }
+    let aimed = aim(r, hint);
+    match line(aimed) {
+        Line::Look(place, then) => make_look(image, found.at, found.max, aimed, place, then),
+        Line::Swap(place, from, to, then) => make_swap(
+            image,
+            found.at,
+            aimed,
+            place,
+            from,
+            to,
+            then,
+        ),
+    }
+}
+
+// Withdraw: the named party's busy record becomes all zero.
+pub fn withdraw(image: &mut [u8], party: u32) -> Answer
+    ensures { λ a. ⌜ ImagePromise (imageOf (now (image .entry)) (Call.withdraw party)) a (now (image .exit)) ⌝ }
+{
+    let found = read_named(image, false, party);
+    if found.number != 0 {
+        return Answer::Refused(found.number);
+    }
+    let r = read_record(image, found.at);
+    let number = withdraw_own(found.max, r);
+    if number != 0 {
+        return Answer::Refused(number);
+    }
+    write_record(image, found.at, idle_record());
+    Answer::GoesOn
+}
