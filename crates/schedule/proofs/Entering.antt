@@ -1,0 +1,129 @@
+-- One entry on the run's two arrays of 16 is that entry on the state of base 3's run.
+use Prim.Native.Nat.{ℕ, _+_, _%_, _≤_, _<_}
+use mathlib.Core.Path.{_≡_, refl, sym, _∙_, ap, subst}
+use mathlib.Core.Bool.{Bool, true, false, not, _&&_, _||_}
+use mathlib.Core.List.{List}
+use lib.ListN.{length, getD, set, take}
+use lib.Seq.{length-take-le, getD-take, take-set-lt, set-getD}
+use lib.Dec.{eqb, leb}
+use borrow.Author.Tests.{eqb-true, eqb-false, eq-eqb, ne-eqb, leb-false}
+use native.Mathlib.Omega.{arith}
+use Rattle.logic.specs.Pick.{pick}
+use Rattle.logic.proofs.Bools.{passed, whichever}
+use Rattle.party.specs.Record.{idle}
+use Rattle.party.specs.Answer.{numberOf, carriedOf}
+use Rattle.party.specs.declared.Record.{Record}
+use Rattle.party.specs.declared.Answered.{Answered}
+use Rattle.step.specs.Step.{stripFits}
+use Rattle.step.specs.Call.{Call, Left, partyOf, tableFits, isUnknown, gate, ownOf, ownLeaves, through, turnedAway, callOf}
+use Rattle.history.specs.Run.{State, Line, goesOn, isStep, looked, effectOf, lineOf, leaves}
+use Rattle.schedule.specs.Turn.{turnOf, turnLeaves, Follows, TurnPromise, lineIn, slotOf}
+use Rattle.schedule.specs.declared.Turn.{Turn}
+use Rattle.schedule.proofs.Turns.{turned-away, let-through}
+
+-- the state of the run, of which the arrays hold the first `parties`
+abbrev pub stateOf : (parties : ℕ) (strip : List ℕ) (table : List Record) (looks : List ℕ) → State
+stateOf parties strip table looks = record { strip = strip; table = take parties table; looks = take parties looks }
+
+call-through : (strip : List ℕ) (table : List Record) (call : Call) → gate (length strip) (length table) call ≡ 0
+    → callOf strip table call ≡ through strip table call
+unfolding callOf
+call-through strip table call clear = simp (eq-eqb _ _ clear)
+
+call-away : (strip : List ℕ) (table : List Record) (call : Call) → (gate (length strip) (length table) call ≡ 0 → ⊥)
+    → callOf strip table call ≡ turnedAway strip table (gate (length strip) (length table) call)
+unfolding callOf
+call-away strip table call barred = simp (ne-eqb _ _ barred)
+
+-- a party that the gate lets through has a record
+inside : (words parties : ℕ) (call : Call) → gate words parties call ≡ 0 → partyOf call < parties
+unfolding gate
+inside words parties call clear =
+    let past1 = passed (not (stripFits words && tableFits parties)) 0 _ clear in
+    let past11 = passed (isUnknown call) 10 _ (past1 .1) in
+    leb-false parties (partyOf call) (passed (leb parties (partyOf call)) 2 0 (past11 .1) .0)
+
+pub gate-small : (words parties : ℕ) (call : Call) → gate words parties call ≤ 11
+unfolding gate
+gate-small words parties call =
+    let small : ℕ → Type 0 = λ n. n ≤ 11 in
+    whichever small (not (stripFits words && tableFits parties)) (omega arith)
+    (whichever small (isUnknown call) (omega arith) (whichever small (leb parties (partyOf call)) (omega arith) (omega arith)))
+
+-- What a turn leaves on the two arrays, and the line it tells, are those of the run.
+pub record Enters (s : State) (entry : ℕ) (call : Call) (got : Turn) (next : State) : Type 0 where
+  pub line : lineOf s entry call ≡ lineIn got
+  pub state : leaves s entry call ≡ next
+
+-- either is set or neither
+pick-set : (test : Bool) (l : List ℕ) (i a : ℕ) → pick test (set l i a) l ≡ set l i (pick test a (getD l i 0))
+pick-set true l i a = refl
+pick-set false l i a = sym (set-getD l i 0)
+
+and-false : (a b : Bool) → a && false && b ≡ false
+and-false true b = refl
+and-false false b = refl
+
+module _ (parties : ℕ) (strip : List ℕ) (table : List Record) (looks : List ℕ) (entry : ℕ) (call : Call)
+    (few : parties ≤ 16) (table-16 : length table ≡ 16) (looks-16 : length looks ≡ 16) where
+  same-gate : gate (length strip) (length (take parties table)) call ≡ gate (length strip) parties call
+  same-gate = ap (λ (n : ℕ). gate (length strip) n call) (length-take-le parties table (omega arith))
+
+  -- let through, with the party's place
+  enters-through : gate (length strip) parties call ≡ 0 → (got : Turn) (left : List ℕ)
+      → TurnPromise strip parties (getD table (partyOf call) idle) (getD looks (partyOf call) 0) entry call got left
+      → Enters (stateOf parties strip table looks) entry call got
+      (stateOf parties left (set table (partyOf call) (got .rec)) (set looks (partyOf call) (got .look)))
+  unfolding lineOf leaves
+  enters-through clear got left promise =
+      let p = partyOf call in
+      let at = inside (length strip) parties call clear in
+      let own = let-through strip parties (getD table p idle) call clear in
+      let f = rw (own .0) at (promise .follows) in
+      let calls = call-through strip (take parties table) call (same-gate ∙ clear) in
+      let rec-is = getD-take parties table p idle at in
+      let look-is = getD-take parties looks p 0 at in
+      record {
+        line = rw (calls, rec-is, look-is, f .number, f .carried, f .effect);
+        state = rw (calls, rec-is, pick-set, look-is, promise .words ∙ own .1, f .rec, f .look, take-set-lt, take-set-lt);
+      }
+
+  -- turned away, with any place
+  enters-away : (gate (length strip) parties call ≡ 0 → ⊥) → (j : ℕ) (got : Turn) (left : List ℕ)
+      → TurnPromise strip parties (getD table j idle) (getD looks j 0) entry call got left
+      → Enters (stateOf parties strip table looks) entry call got
+      (stateOf parties left (set table j (got .rec)) (set looks j (got .look)))
+  unfolding lineOf leaves
+  enters-away barred j got left promise =
+      let away = turned-away strip parties (getD table j idle) call barred in
+      let f = rw (away .0) at (promise .follows) in
+      let calls = call-away strip (take parties table) call (λ e. barred (sym same-gate ∙ e)) in
+      let small = gate-small (length strip) parties call in
+      let no-full = ne-eqb (gate (length strip) parties call) 18 (λ e. omega arith) in
+      let no-empty = ne-eqb (gate (length strip) parties call) 19 (λ e. omega arith) in
+      let no-going = ne-eqb (gate (length strip) parties call) 0 barred in
+      record {
+        line = rw (calls, same-gate, f .number, f .carried, f .effect, no-full, no-empty);
+        state = rw (calls, same-gate, promise .words ∙ away .1, f .rec, f .look, no-going, and-false, and-false, set-getD, set-getD);
+      }
+
+  pub enters : (got : Turn) (left : List ℕ)
+      → TurnPromise strip parties (getD table (slotOf call) idle) (getD looks (slotOf call) 0) entry call got left
+      → Enters (stateOf parties strip table looks) entry call got
+      (stateOf parties left (set table (slotOf call) (got .rec)) (set looks (slotOf call) (got .look)))
+  enters got left promise = go (eqb (gate (length strip) parties call) 0) refl
+    where
+      At : ℕ → Type 0
+      At j = TurnPromise strip parties (getD table j idle) (getD looks j 0) entry call got left
+          → Enters (stateOf parties strip table looks) entry call got
+          (stateOf parties left (set table j (got .rec)) (set looks j (got .look)))
+
+      go : (clear : Bool) → eqb (gate (length strip) parties call) 0 ≡ clear
+          → Enters (stateOf parties strip table looks) entry call got
+          (stateOf parties left (set table (slotOf call) (got .rec)) (set looks (slotOf call) (got .look)))
+      go true e =
+          let clear = eqb-true (gate (length strip) parties call) 0 e in
+          let at = inside (length strip) parties call clear in
+          let place : partyOf call ≡ slotOf call = omega arith in
+          subst At place (enters-through clear got left) promise
+      go false e = enters-away (eqb-false (gate (length strip) parties call) 0 e) (slotOf call) got left promise

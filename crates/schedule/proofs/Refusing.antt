@@ -1,0 +1,50 @@
+-- List refused, and list let through.
+use Prim.Native.Nat.{ℕ, _+_, _≤_, _<_}
+use mathlib.Core.Path.{_≡_, refl, sym, _∙_, ap}
+use mathlib.Core.Bool.{Bool, true, false, not, _&&_}
+use mathlib.Core.List.{List, _++_}
+use lib.ListN.{length, drop}
+use lib.Seq.{sets, sets-eq}
+use lib.Dec.{eqb, leb}
+use borrow.Author.Tests.{eqb-true, leb-true, eq-eqb, ne-eqb, not-false}
+use native.Mathlib.Omega.{arith}
+use native.Mathlib.Nat.{zero-add}
+use Rattle.logic.specs.Pick.{pick}
+use Rattle.logic.proofs.Bools.{both, passed}
+use Rattle.schedule.specs.File.{maxAt, fileRefusal}
+use Rattle.schedule.specs.Listing.{listingOf}
+use Rattle.schedule.specs.Writing.{Puts}
+use Rattle.schedule.specs.List.{longest, listRefusal, wordsAtEnd, ListPromise}
+use Rattle.schedule.specs.declared.Listed.{Listed}
+
+pub record Clear (file : List ℕ) (words room : ℕ) : Type 0 where
+  pub whole : words ≡ 4096
+  pub wide : longest ≤ room
+  pub passes : fileRefusal file ≡ 0
+
+pub clear : (file : List ℕ) (words room : ℕ) → listRefusal file words room ≡ 0 → Clear file words room
+unfolding listRefusal
+clear file words room e =
+    let past = passed (not (eqb words 4096 && leb longest room)) 0 _ e in
+    let each = both (eqb words 4096) (leb longest room) (not-false (eqb words 4096 && leb longest room) (past .0)) in
+    record { whole = eqb-true words 4096 (each .0); wide = leb-true longest room (each .1); passes = past .1 }
+
+module _ (file strip out : List ℕ) where
+  pub when-refused : (number : ℕ) → number ≡ listRefusal file (length strip) (length out) → (number ≡ 0 → ⊥)
+      → ListPromise file strip out (record { number = number; length = 0 }) strip out
+  when-refused number is refused =
+      let test = ne-eqb (listRefusal file (length strip) (length out)) 0 (λ e. refused (is ∙ e)) in
+      record { number = is; long = rw test; words-left = rw test; bytes-left = rw test }
+
+  pub when-listed : listRefusal file (length strip) (length out) ≡ 0 → length (listingOf file) ≤ longest
+      → (next : ℕ) (left : List ℕ) → Puts (listingOf file) out 0 next left
+      → ListPromise file strip out (record { number = 0; length = next }) (wordsAtEnd file ++ drop (maxAt file + 2) strip) left
+  when-listed passes short next left puts =
+      let c = clear file (length strip) (length out) passes in
+      let test = eq-eqb (listRefusal file (length strip) (length out)) 0 passes in
+      record {
+        number = sym passes;
+        long = rw test (omega arith);
+        words-left = rw test;
+        bytes-left = rw test (puts .bytes ∙ sets-eq (listingOf file) out 0 (omega arith) ∙ ap (λ (n : ℕ). listingOf file ++ drop n out) (zero-add (length (listingOf file))));
+      }

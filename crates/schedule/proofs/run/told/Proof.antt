@@ -1,0 +1,34 @@
+use mathlib.Core.Path.{refl}
+use borrow.Author.Needs.{needs}
+use Rattle.schedule.proofs.run.told.Statement.{statement}
+use Rattle.schedule.proofs.run.told.Tie as tie
+
+number-of-requires : tie.Need-number-of-requires
+number-of-requires c κs = search needs
+
+carried-of-requires : tie.Need-carried-of-requires
+carried-of-requires c κs = search needs
+
+pick-u32-requires : tie.Need-pick-u32-requires
+pick-u32-requires c κs = search needs
+
+pick-u32-requires-2 : tie.Need-pick-u32-requires-2
+pick-u32-requires-2 c κs = search needs
+
+returns : tie.Need-returns
+returns c =
+    let effect = c .before in
+    let carried = effect .before in
+    let number = carried .before .number-of .ensures in
+    record {
+      number = number;
+      carried = carried .carried-of .ensures;
+      effect = rw (← number) (effect .pick-u32 .ensures);
+      rec = refl;
+      look = rw (← number) (c .pick-u322 .ensures);
+    }
+
+pub told-spec : {M : Type 1} → statement M
+told-spec =
+    tie.close
+    (tie.spec number-of-requires carried-of-requires pick-u32-requires pick-u32-requires-2 returns)

@@ -1,0 +1,34 @@
+-- The call that runs a schedule file and writes its listing.
+use Prim.Native.Nat.{ℕ, _+_}
+use mathlib.Core.Path.{_≡_}
+use mathlib.Core.Bool.{not, _&&_}
+use mathlib.Core.List.{List, _++_}
+use lib.ListN.{length, drop}
+use lib.Dec.{eqb, leb}
+use Rattle.logic.specs.Pick.{pick}
+use Rattle.history.specs.Run.{endFrom}
+use Rattle.schedule.specs.File.{maxAt, fileRefusal, callsOf}
+use Rattle.schedule.specs.Listing.{firstState, listingOf}
+use Rattle.schedule.specs.declared.Listed.{Listed}
+
+-- no listing is longer
+abbrev pub longest : ℕ
+longest = 147489
+
+-- the strip is lent at its longest and the listing has room, whatever the file; then the file's own checks
+unfoldable pub listRefusal : (file : List ℕ) (words room : ℕ) → ℕ
+listRefusal file words room = pick (not (eqb words 4096 && leb longest room)) 1 (fileRefusal file)
+
+-- the strip's words after the last entry
+unfoldable pub wordsAtEnd : (file : List ℕ) → List ℕ
+wordsAtEnd file = endFrom (firstState file) 0 (callsOf file) .strip
+
+-- What list promises: the number, the listing's length, and every word and byte it was lent. A refusal alters none.
+pub record ListPromise (file strip out : List ℕ) (got : Listed) (words bytes : List ℕ) : Type 0 where
+  pub number : got .number ≡ listRefusal file (length strip) (length out)
+  pub long : got .length ≡ pick (eqb (listRefusal file (length strip) (length out)) 0) (length (listingOf file)) 0
+  -- the strip of MAX+2 words, then what was lent beyond it
+  pub words-left : words ≡ pick (eqb (listRefusal file (length strip) (length out)) 0)
+      (wordsAtEnd file ++ drop (maxAt file + 2) strip) strip
+  pub bytes-left : bytes ≡ pick (eqb (listRefusal file (length strip) (length out)) 0)
+      (listingOf file ++ drop (length (listingOf file)) out) out

@@ -1,0 +1,63 @@
+-- The listing of a run, as document 01 prints it.
+use Prim.Native.Nat.{ℕ, suc}
+use mathlib.Core.List.{List, [], _∷_, _++_}
+use lib.Dec.{eqb}
+use Rattle.logic.specs.Pick.{pick}
+use Rattle.word.specs.Word.{valueOf, counterOf}
+use Rattle.step.specs.Call.{Call, partyOf}
+use Rattle.strip.specs.Lay.{freshStrip}
+use Rattle.history.specs.Run.{State, Line, begin, linesFrom, endFrom}
+use Rattle.history.specs.Finished.{isResult}
+use Rattle.schedule.specs.File.{partiesAt, maxAt, divideAt, callsOf}
+use Rattle.schedule.specs.Text.{decimal}
+
+-- a space and a number
+abbrev pub spaced : (number : ℕ) → List ℕ
+spaced number = 32 ∷ decimal number
+
+-- the entry where the operation took effect, or "-"
+abbrev pub effectText : Line → List ℕ
+effectText line = pick (isResult (line .number)) (decimal (line .effect)) (45 ∷ [])
+
+-- entry, party, number, carried order, effect
+abbrev pub lineText : (entry : ℕ) → Call → Line → List ℕ
+lineText entry call line =
+    decimal entry
+    ++ (spaced (partyOf call) ++ (spaced (line .number) ++ (spaced (line .carried) ++ (32 ∷ (effectText line ++ (10 ∷ []))))))
+
+unfoldable pub linesText : (entry : ℕ) → List Call → List Line → List ℕ
+linesText entry [] lines = []
+linesText entry (call ∷ calls) [] = []
+linesText entry (call ∷ calls) (line ∷ lines) = lineText entry call line ++ linesText (suc entry) calls lines
+
+-- of a run from a state and an entry number on
+abbrev pub runText : State → (entry : ℕ) → List Call → List ℕ
+runText s entry calls = linesText entry calls (linesFrom s entry calls)
+
+-- "strip MAX divide parties N"
+abbrev pub headerText : (max divide parties : ℕ) → List ℕ
+headerText max divide parties =
+    (115 ∷ 116 ∷ 114 ∷ 105 ∷ 112 ∷ [])
+    ++ (spaced max ++ (spaced divide ++ ((32 ∷ 112 ∷ 97 ∷ 114 ∷ 116 ∷ 105 ∷ 101 ∷ 115 ∷ []) ++ (spaced parties ++ (10 ∷ [])))))
+
+-- value.counter
+abbrev pub wordText : (word : ℕ) → List ℕ
+wordText word = spaced (valueOf word) ++ (46 ∷ decimal (counterOf word))
+
+-- of each word
+unfoldable pub wordsText : List ℕ → List ℕ
+wordsText [] = 10 ∷ []
+wordsText (word ∷ words) = wordText word ++ wordsText words
+
+-- "cells", then the words
+abbrev pub cellsText : List ℕ → List ℕ
+cellsText strip = (99 ∷ 101 ∷ 108 ∷ 108 ∷ 115 ∷ []) ++ wordsText strip
+
+abbrev pub firstState : List ℕ → State
+firstState file = begin (freshStrip (maxAt file) (divideAt file)) (partiesAt file)
+
+unfoldable pub listingOf : List ℕ → List ℕ
+listingOf file =
+    headerText (maxAt file) (divideAt file) (partiesAt file)
+    ++ (runText (firstState file) 0 (callsOf file)
+    ++ cellsText (endFrom (firstState file) 0 (callsOf file) .strip))

@@ -1,0 +1,144 @@
+// One entry after the other on a strip and a table of records.
+use crate::Turn;
+use entry::Entry;
+use logic::pick_u32;
+use party::Answer;
+use party::Answered;
+use party::Record;
+use party::make::refused_with;
+use step::strip_fits;
+ghost use mathlib.Core.Path.{_≡_};
+ghost use mathlib.Core.Bool.{true};
+ghost use lib.ListN.{length};
+ghost use Rattle.party.specs.Answer.{numberOf, carriedOf, Gives};
+ghost use Rattle.step.specs.Step.{stripFits};
+ghost use Rattle.step.specs.Call.{partyOf, isUnknown, tableFits, gate, ownOf, ownLeaves};
+ghost use Rattle.entry.specs.Entry.{callOf};
+ghost use Rattle.history.specs.Run.{isStep};
+ghost use Rattle.schedule.specs.Turn.{turnOf, turnLeaves, Follows, TurnPromise};
+
+fn number_of(answer: Answer) -> u32
+    ensures { λ n. ⌜ n ≡ numberOf answer ⌝ }
+{
+    match answer {
+        Answer::GoesOn => 0,
+        Answer::Pushed => 16,
+        Answer::Popped(_) => 17,
+        Answer::Full => 18,
+        Answer::Empty => 19,
+        Answer::Refused(number) => number,
+    }
+}
+
+fn carried_of(answer: Answer) -> u32
+    ensures { λ n. ⌜ n ≡ carriedOf answer ⌝ }
+{
+    match answer {
+        Answer::Popped(order) => order,
+        Answer::GoesOn => 0,
+        Answer::Pushed => 0,
+        Answer::Full => 0,
+        Answer::Empty => 0,
+        Answer::Refused(_) => 0,
+    }
+}
+
+pub fn party_of(e: Entry) -> u8
+    ensures { λ p. ⌜ p ≡ partyOf (callOf e) ⌝ }
+{
+    match e {
+        Entry::Start(party, _, _) => party,
+        Entry::Step(party, _) => party,
+        Entry::Withdraw(party) => party,
+    }
+}
+
+fn is_unknown(e: Entry) -> bool
+    ensures { λ t. ⌜ t ≡ isUnknown (callOf e) ⌝ }
+{
+    match e {
+        Entry::Start(_, operation, _) => 3 < operation,
+        Entry::Step(_, _) => false,
+        Entry::Withdraw(_) => false,
+    }
+}
+
+fn is_step(e: Entry) -> bool
+    ensures { λ t. ⌜ t ≡ isStep (callOf e) ⌝ }
+{
+    match e {
+        Entry::Start(_, _, _) => false,
+        Entry::Step(_, _) => true,
+        Entry::Withdraw(_) => false,
+    }
+}
+
+fn table_fits(parties: u8) -> bool
+    ensures { λ t. ⌜ t ≡ tableFits parties ⌝ }
+{
+    (1 <= parties) & (parties <= 16)
+}
+
+// The checks before the record's own.
+fn gate_of(words: usize, parties: u8, e: Entry) -> u32
+    ensures { λ n. ⌜ n ≡ gate words parties (callOf e) ⌝ }
+{
+    let fits = strip_fits(words) & table_fits(parties);
+    let far = pick_u32(parties <= party_of(e), 3, 0);
+    pick_u32(!fits, 1, pick_u32(is_unknown(e), 11, far))
+}
+
+// The call on the party's own record.
+fn own(strip: &mut [u64], r: Record, e: Entry) -> Answered
+    requires { ⌜ stripFits (length (now strip)) ≡ true ⌝ }
+    ensures gives { λ got. ⌜ Gives (ownOf (now (strip .entry)) r (callOf e)) got ⌝ }
+    ensures words { λ got. ⌜ now (strip .exit) ≡ ownLeaves (now (strip .entry)) r (callOf e) ⌝ }
+{
+    let max = (strip.len() - 2) as u32;
+    match e {
+        Entry::Start(_, operation, order) => party::start(max, r, operation as u32, order),
+        Entry::Step(_, hint) => step::step(strip, r, hint),
+        Entry::Withdraw(_) => party::withdraw(max, r),
+    }
+}
+
+fn answered(strip: &mut [u64], parties: u8, r: Record, e: Entry) -> Answered
+    ensures gives { λ got. ⌜ Gives (turnOf (now (strip .entry)) parties r (callOf e)) got ⌝ }
+    ensures words { λ got. ⌜ now (strip .exit) ≡ turnLeaves (now (strip .entry)) parties r (callOf e) ⌝ }
+{
+    let number = gate_of(strip.len(), parties, e);
+    if number != 0 {
+        return refused_with(number, r);
+    }
+    own(strip, r, e)
+}
+
+// What is told of an answer: FULL and EMPTY took effect at the party's last look.
+fn told(a: Answered, steps: bool, stage: u8, look: u32, entry: u32) -> Turn
+    ensures { λ got. ⌜ Follows a steps stage look entry got ⌝ }
+{
+    let answer = a.answer;
+    let rec = a.rec;
+    let number = number_of(answer);
+    let looked = steps & (number == 0) & ((stage == 1) | (stage == 2));
+    Turn {
+        number,
+        carried: carried_of(answer),
+        effect: pick_u32((number == 18) | (number == 19), look, entry),
+        rec,
+        look: pick_u32(looked, entry, look),
+    }
+}
+
+// One entry on the record and the last look of its party.
+pub fn turn(strip: &mut [u64], parties: u8, r: Record, look: u32, entry: u32, e: Entry) -> Turn
+    ensures { λ got. ⌜ TurnPromise (now (strip .entry)) parties r look entry (callOf e) got (now (strip .exit)) ⌝ }
+{
+    told(
+        answered(strip, parties, r, e),
+        is_step(e),
+        r.stage,
+        look,
+        entry,
+    )
+}
