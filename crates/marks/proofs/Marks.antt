@@ -1,0 +1,29 @@
+-- Every starred mark holds, by computation.
+use mathlib.Core.Path.{_≡_, refl}
+use mathlib.Core.Bool.{true, _&&_}
+use Rattle.party.specs.Valid.{validOf}
+use Rattle.party.specs.Calls.{startOwn, startRefusal, startOf}
+use Rattle.step.specs.Table.{lineOf}
+use Rattle.step.specs.Follow.{judgeOf, recheckOf}
+use Rattle.step.specs.Step.{stepOwn, stepRefusal, stepOf, stepLeaves}
+use Rattle.step.specs.Call.{gate, callOf}
+use Rattle.strip.specs.Measure.{measureOf}
+use Rattle.strip.specs.Measure as measure
+use Rattle.fresh.specs.Play.{play}
+use Rattle.placing.specs.Placing.{atEntry, inOrder}
+use Rattle.history.specs.Run.{lineOf as runLine, leaves, linesFrom, endFrom}
+use Rattle.history.specs.Finished.{finishedFrom}
+use Rattle.marks.specs.Seen.{seenFrom}
+use Rattle.marks.specs.Replay.{allSame, replays}
+use Rattle.little.specs.Bytes.{numberAt}
+use Rattle.entry.specs.Entry.{callAt}
+use Rattle.schedule.specs.File.{callsFrom}
+use Rattle.schedule.specs.Text.{digitsOf}
+use Rattle.schedule.specs.Listing.{listingOf, linesText, wordsText}
+use Rattle.marks.specs.Marks.{allHold, marks, prints}
+
+pub the-marks-hold : allHold marks && prints ≡ true
+unfolding validOf startOwn startRefusal startOf lineOf judgeOf recheckOf stepOwn stepRefusal stepOf stepLeaves gate callOf
+    measure.runOf measureOf play atEntry inOrder runLine leaves linesFrom endFrom finishedFrom seenFrom allSame replays allHold
+    numberAt callAt callsFrom digitsOf listingOf linesText wordsText
+the-marks-hold = refl

@@ -1,0 +1,4 @@
+pub mod Seen
+pub mod Replay
+pub mod Fight
+pub mod Marks
