@@ -1,0 +1,1 @@
+// No code: what walks by hand share, and how to write one, stands in proofs/Steps.antt.

@@ -1,0 +1,117 @@
+-- `table::withdraw_record` meets its contract: a walk of its MIR, by hand. The record's borrow is opened, the record read and handed to
+-- `withdraw_told`, what it tells is stored and the borrow closed.
+use Prim.Native.Nat.{ℕ, _<_, _^_}
+use denote.Struct.Laws as LL
+use Rattle.lent.proofs.Prelude.{_≡_, refl, List, [], _∷_, URA, named, w32, Val, vint, vptr, SProp, ent, emp, via, fst∗, id⊢}
+use Rattle.lent.proofs.Prelude.{GName, Lft, Share, ftrue, flft, fobs, fbor, Memory, Routine, Heap, Calls, Loops, WpFn, Tables, Atoms, Fun, givenOf, tables, tablesOf}
+use Rattle.lent.proofs.Prelude.{Given, ‵, raw, ⋆, _⊛_, _$_, _∵_, !, qed, by, move, keep, use0, split, join, fsplit, fsplit3, fjoin, suffices, frame, done}
+use Rattle.lent.proofs.Prelude.{look, look-raw, store-raw, init, stop, hop, fld, from, load, of-opd, and-then, no-more, assigns, land, returns, enter, alloc1, alloc0, params1, pass1, pass0, free0, whole, sub, look-in}
+use Rattle.lent.proofs.Prelude.{FmC, fmOf, WpFn-mono, owns, Is, Body, mem, uint-vals, uint-tells, u32, RefT, MutRef, ptr-vals, mut-tells, plain, owned, nothing}
+use Rattle.lent.proofs.Prelude.{onEntry, Meets, tripleOf, Contract, Triple, calls-at, entered, cited, says, Stays, stay-ref, stay-none, walkOf, goes-none, goes-ref, ends-at, walked, walk-meets, yes}
+use Rattle.lent.proofs.Steps.{opens-struct, closes-struct, after-plain-call, frees-local, with-u32, with-struct, keeps-ref, result-struct}
+use Rattle.party.specs.declared.Record.{Record}
+use Rattle.party.proofs.Record as R
+use Rattle.party.proofs.Record.Laws as R′
+use Rattle.party.specs.Calls.{withdrawOf}
+use Rattle.step.specs.Call.{Call}
+use Rattle.table.specs.Said.{toldOf}
+use Rattle.table.specs.Lent.{DoesAtMax, alone}
+use Rattle.table.specs.declared.Said.{Said}
+use Rattle.table.proofs.Promised.{withdraw-alone}
+use Rattle.table.proofs.Machine.{machine, IsRecord, said-of, record-of, record-typed, said-typed, told-typed}
+use Rattle.table.proofs.Said as S
+use Rattle.table.proofs.Said.Laws as S′
+use Rattle.table.proofs.Told as T
+use Rattle.table.proofs.Told.Laws as T′
+use Rattle.table.proofs.withdraw_told as withdraw-told
+use Rattle.table.proofs.withdraw_told.Symbol as withdraw-told-def
+use Rattle.table.proofs.withdraw_told.Symbol.{name as #table·withdraw-told}
+use Rattle.table.proofs.withdraw_told.Met as withdraw-told-thm
+use Rattle.table.proofs.withdraw_record.Key.{name as #table·withdraw-record}
+use Rattle.table.proofs.withdraw_record as withdraw-record
+use Rattle.table.proofs.withdraw_record.Statement as stated
+use Rattle.table.proofs.withdraw_record.Code as code
+
+abbrev stayed : Stays (withdraw-record.ended .signature .params) (withdraw-record.ended .kept)
+stayed = (stay-none (λ _. u32) yes, (stay-ref (0 ∷ []) tt (plain (λ _. R.the-row)), tt))
+
+-- the contracts that the proof cites
+module _ {M : Type 1} (𝓤 : URA M) (H : Heap 𝓤) (A : Atoms 𝓤) (at-mem : Memory → SProp 𝓤) (run : Routine → Fun 𝓤) where
+  abbrev Telling : Contract 𝓤
+  Telling = tripleOf 𝓤 H A withdraw-told.signature (withdraw-told.spec 𝓤 H A at-mem run)
+
+module _ {M : Type 1} (𝓤 : URA M) (H : Heap 𝓤) (A : Atoms 𝓤) (W : Given 𝓤 H A) (at-mem : Memory → SProp 𝓤) (run : Routine → Fun 𝓤)
+    (κ : Lft) (q : Share) (b o : ℕ) (γ : GName)
+    (h : Record) (m : ℕ)
+    (m-fits : m < 2 ^ 32) where
+  abbrev lent : Record → RefT Record
+  lent r = record { ptr = (b, o); name = γ; now = r }
+
+  abbrev Arg : Type 0
+  Arg = ℕ × (RefT Record × Unit {0})
+
+  abbrev a : Arg
+  a = (m, (lent h, tt))
+
+  abbrev vals : List Val × (List Val × Unit {0})
+  vals = (vint w32 m ∷ [], (vptr b o ∷ [], tt))
+
+  abbrev bound : walkOf 𝓤 H A withdraw-record.ended stayed (withdraw-record.clauses 𝓤 H A at-mem run) .Ghost
+  bound = (((κ, tt), (q, tt), tt, a, vals), tt)
+
+  abbrev Post : Val → SProp 𝓤
+  Post = walkOf 𝓤 H A withdraw-record.ended stayed (withdraw-record.clauses 𝓤 H A at-mem run) .post bound
+
+  abbrev to-told : Telling 𝓤 H A at-mem run .Ghost
+  to-told = ((tt, tt, tt, (m, (h, tt)), (vint w32 m ∷ [], (machine h ∷ [], tt))), tt)
+
+  goes-told : IsRecord h → ent 𝓤 (emp 𝓤) (Telling 𝓤 H A at-mem run .pre to-told)
+  goes-told is = qed W [] ∵ nothing ! $ with-struct ! R.the-type R′.the-laws R′.the-plain h is $ with-u32 ! m m-fits $ nothing ! $ join ! $ frame ! $ nothing ! $ done !
+
+  exits : (got : Said) (u : Val) (r′ : Record) → Is S.the-row got (u ∷ []) → DoesAtMax m (alone h) (Call.withdraw 0) got (alone r′)
+      → ent 𝓤 (⋆ 𝓤 H A (‵ (fobs γ (R.the-row .coded .code r′)) ∷ ‵ (fbor κ (Body (mem R.the-row) b o γ)) ∷ ‵ (flft κ q) ∷ [])) (Post u)
+  exits got u r′ is does =
+      qed W (‵ (fobs γ (R.the-row .coded .code r′)) ∷ ‵ (fbor κ (Body (mem R.the-row) b o γ)) ∷ ‵ (flft κ q) ∷ []) ∵
+      suffices ! _ (ends-at 𝓤 H A withdraw-record.ended stayed (withdraw-record.clauses 𝓤 H A at-mem run) W bound u got (tt, (r′, tt)) (tt, (tt, tt))) $ says ! does $
+      nothing ! $ move ! (3 ∷ 0 ∷ []) $ join ! $ frame ! $
+      keeps-ref ! (named 0) R.the-row (lent r′) $ nothing ! $ move ! (1 ∷ 0 ∷ []) $ fjoin ! $ with-u32 ! m m-fits $
+      owned ! S.the-row (Is S.the-row) (LL.makes S.the-type S′.the-plain 𝓤 H A) got _ is $ move ! (1 ∷ 0 ∷ []) $ done !
+
+  module _ (C : Calls 𝓤 H) (Λ : Loops 𝓤 H) (fm : FmC 𝓤 H (W .laws) C) (known-told : Triple 𝓤 (C #table·withdraw-told) (Telling 𝓤 H A at-mem run)) where
+    walk : ent 𝓤 (onEntry 𝓤 H A withdraw-record.signature (κ, tt) (q, tt) a vals) (WpFn 𝓤 H C Λ code.function (vint w32 m ∷ vptr b o ∷ []) Post)
+    walk =
+        qed W ((‵ (flft κ q) ⊛ ‵ ftrue) ∷ ‵ (owns (u32 ∷ MutRef (named 0) κ R.the-row ∷ []) a vals) ∷ []) ∵
+        split ! $ move ! (2 ∷ []) $ fsplit ! $ move ! (1 ∷ []) $ fsplit ! $ fsplit3 ! $ keep ! (1 ∷ 2 ∷ 5 ∷ []) $
+        -- [obs; the record's borrow; its token]
+        enter ! C Λ code.function (vint w32 m ∷ vptr b o ∷ []) _ $
+        alloc1 ! (λ l₀. alloc1 ! (λ l₁. alloc1 ! (λ l₂. alloc1 ! (λ l₃. alloc1 ! (λ l₄. alloc0 ! $ params1 ! $
+        pass1 ! (init ! 6 refl (tt, record { fits = m-fits })) $ pass1 ! (init ! 4 refl (tt, tt)) $ pass0 ! $
+        -- [_4; …; _0; …; what was there], with _i at 2 · (4 − i)
+        move ! (10 ∷ 11 ∷ 12 ∷ []) $ opens-struct ! tt R.the-type R′.the-laws h b o (λ is.
+        -- [the record's cell; the open borrow; obs; auth; _4; …; _0; …], with _i at 4 + 2 · (4 − i)
+        assigns ! (of-opd ! (load ! (from ! (hop ! (look ! 8 refl) (stop !))) (look-raw ! 0 refl))) (from ! (stop !)) (init ! 4 refl (record-typed 𝓤 H A W h is)) $
+        use0 W (raw (Telling 𝓤 H A at-mem run .pre to-told)) (goes-told is) $
+        calls-at ! fm (Telling 𝓤 H A at-mem run) known-told to-told (and-then ! (load ! (from ! (stop !)) (look ! 11 refl)) (and-then ! (load ! (from ! (stop !)) (look ! 5 refl)) (no-more !))) (λ w′.
+        after-plain-call ! tt withdraw-told.ended (withdraw-told.clauses 𝓤 H A at-mem run) to-told w′ (λ t. t ≡ toldOf (withdrawOf m h)) (λ t ws. id⊢ 𝓤 _) (λ t e. result-struct ! T.the-type T′.the-laws t w′ (λ is-told.
+        land ! (from ! (stop !)) (init ! 6 refl (told-typed 𝓤 H A W t is-told)) $
+        assigns ! (of-opd ! (load ! (from ! (fld ! refl (stop !))) (look-in ! 6 (sub ! 1 refl (whole !))))) (from ! (hop ! (look ! 8 refl) (stop !))) (store-raw ! 0 refl (record-typed 𝓤 H A W (t .rec) (record-of t is-told))) $
+        assigns ! (of-opd ! (load ! (from ! (fld ! refl (stop !))) (look-in ! 6 (sub ! 0 refl (whole !))))) (from ! (stop !)) (init ! 12 refl (said-typed 𝓤 H A W (t .said) (said-of t is-told))) $
+        closes-struct ! tt R.the-type R′.the-laws R′.the-plain (t .rec) (record-of t is-told) b o $
+        returns ! (look ! 11 refl) $ frees-local ! 11 refl refl $ frees-local ! 9 refl refl $ frees-local ! 7 refl refl $ frees-local ! 5 refl refl $ frees-local ! 3 refl refl $ free0 ! $
+        by ! (exits (t .said) _ (t .rec) (said-of t is-told) (withdraw-alone m h t e)))))))))))
+
+withdraw-record-meets : {M : Type 1} (𝓤 : URA M) (H : Heap 𝓤) (A : Atoms 𝓤) (W : Given 𝓤 H A) (at-mem : Memory → SProp 𝓤) (run : Routine → Fun 𝓤) (𝓣 : Tables 𝓤 H) → Triple 𝓤 (𝓣 .C #table·withdraw-told) (Telling 𝓤 H A at-mem run)
+    → Meets 𝓤 H A withdraw-record.signature (WpFn 𝓤 H (𝓣 .C) (𝓣 .Λ) code.function) (withdraw-record.spec 𝓤 H A at-mem run)
+withdraw-record-meets 𝓤 H A W at-mem run 𝓣 known-told =
+    walk-meets 𝓤 H A withdraw-record.ended stayed W (goes-none 𝓤 H A W 1 (λ _. u32) yes (λ κs x f. refl), (goes-ref 𝓤 H A W 1 0 tt (plain (λ _. R.the-row)), tt)) (withdraw-record.clauses 𝓤 H A at-mem run) (WpFn 𝓤 H (𝓣 .C) (𝓣 .Λ) code.function) (WpFn-mono 𝓤 H (W .laws) 𝓣 code.function)
+    (walked 𝓤 H A withdraw-record.ended stayed (withdraw-record.clauses 𝓤 H A at-mem run) (WpFn 𝓤 H (𝓣 .C) (𝓣 .Λ) code.function)
+    (λ κs. (uint-vals w32, (ptr-vals, tt))) (λ κs. (uint-tells w32, (mut-tells (named 0) (κs .0) R.the-row, tt)))
+    (λ κs qs bounds a g are. via 𝓤 _ (fst∗ 𝓤 _ (emp 𝓤)) (walk 𝓤 H A W at-mem run (κs .0) (qs .0) (a .1 .0 .ptr .0) (a .1 .0 .ptr .1) (a .1 .0 .name) (a .1 .0 .now) (a .0) (are .0 .1) (𝓣 .C) (𝓣 .Λ) (fmOf 𝓤 H (W .laws) 𝓣) known-told)))
+
+pub withdraw-record-spec : {M : Type 1} → stated.statement M
+unfolding code.routine tablesOf
+withdraw-record-spec 𝓤 H 𝓜 𝓖 𝓡 =
+    entered 𝓤 H (tripleOf 𝓤 H (𝓖 .A) withdraw-record.signature (withdraw-record.spec 𝓤 H (𝓖 .A) (𝓜 .mem) (𝓡 .run)))
+    (tables 𝓤 H 𝓜 𝓡 code.env .C) (tables 𝓤 H 𝓜 𝓡 code.env .Λ) #table·withdraw-record code.function (code.unfolded 𝓤 H 𝓜 𝓡)
+    (withdraw-record-meets 𝓤 H (𝓖 .A) (givenOf 𝓤 H 𝓜 𝓖) (𝓜 .mem) (𝓡 .run) (tablesOf 𝓤 H 𝓜 (tables 𝓤 H 𝓜 𝓡 code.env))
+    (cited 𝓤 H (Telling 𝓤 H (𝓖 .A) (𝓜 .mem) (𝓡 .run)) 𝓜 𝓡 code.env #table·withdraw-told withdraw-told-def.routine code.calls-table·withdraw-told (withdraw-told-thm.met 𝓤 H 𝓜 𝓖 𝓡)))
