@@ -1,0 +1,75 @@
+//! The text door.
+#![forbid(unsafe_code)]
+#![deny(warnings)]
+
+use std::collections::BTreeMap;
+use twin::generate::probe::{image_line, strip_line};
+use twin::random::{seed_or, Random};
+use twin::Twin;
+
+#[test]
+fn commands_and_answers() {
+    let two32 = 4_294_967_296u64;
+    let pushed = format!("16 0 0 0 0 0 0 0 0 {} {} 1", two32, two32 + 7);
+    let step = format!("step 0 0 5 2 7 {} 1 0 {} 1 1", two32, two32);
+    for (line, answer) in [
+        ("lay 1 5 5 5 5", "0 0 0 1 1"),
+        ("lay 3 5 5 5 5", "8 5 5 5 5"),
+        ("lay 0 5 5", "1 5 5"),
+        ("lay 0", "1"),
+        ("find right 0 0 1 1", "0 2"),
+        ("find left 0 5 1", "0 0"),
+        ("find left 1 1 1", "10 0"),
+        ("find right", "1 0"),
+        ("measure 0 0 9 1", "0 1 1 0"),
+        ("measure 0 2 1", "12 0 0 0"),
+        ("start 2 0 0 0 0 0 0 0 7", "0 0 0 1 0 7 0 0"),
+        ("start 2 0 0 0 0 0 0 4 7", "11 0 0 0 0 0 0 0"),
+        ("withdraw 2 0 1 0 7 0 0", "0 0 0 0 0 0 0 0"),
+        ("withdraw 2 0 1 0 2 0 0", "4 0 0 1 0 2 0 0"),
+        ("step 2 0 1 0 7 0 0 0 0 1 1", "0 0 0 2 2 7 0 0 0 0 1 1"),
+        ("step 65538 0 1 0 7 0 0 0 0 1 1", "8 0 0 1 0 7 0 0 0 0 1 1"),
+        (step.as_str(), pushed.as_str()),
+        ("read 3 1 -", "1 0 0 0 0 0 0 0 0 0"),
+        ("image-withdraw 0 00", "1 00"),
+        ("", "?"),
+        ("lay", "?"),
+        ("lay x 0 0 0", "?"),
+        ("find up 0 0 1", "?"),
+        ("withdraw 2 256 1 0 2 0 0", "?"),
+        ("withdraw 2 0 1 0 2 0 0 0", "?"),
+    ] {
+        assert_eq!(Twin::faithful().probe(line), answer, "{}", line);
+    }
+}
+
+/// Counts the numbers; an image call's answer is packed.
+fn count(make: fn(&mut Random) -> String, seed: u64, lines: usize) -> BTreeMap<u32, usize> {
+    let mut random = Random::new(seed);
+    let mut numbers = BTreeMap::new();
+    for _ in 0..lines {
+        let line = make(&mut random);
+        let answer = Twin::faithful().probe(&line);
+        let first: u64 = match answer.split(' ').next().and_then(|text| text.parse().ok()) {
+            Some(number) => number,
+            None => panic!("seed {}: {} answers {}", seed, line, answer),
+        };
+        *numbers.entry(first as u32).or_insert(0) += 1;
+    }
+    println!("seed {}: {} lines, numbers {:?}", seed, lines, numbers);
+    numbers
+}
+
+#[test]
+fn every_number_occurs_at_the_strip_door() {
+    let numbers = count(strip_line, seed_or(41), 20_000);
+    let seen: Vec<u32> = numbers.keys().copied().collect();
+    assert_eq!(seen, [0, 1, 4, 5, 6, 7, 8, 9, 10, 11, 12, 16, 17, 18, 19]);
+}
+
+#[test]
+fn every_number_occurs_at_the_image_door() {
+    let numbers = count(image_line, seed_or(42), 20_000);
+    let seen: Vec<u32> = numbers.keys().copied().collect();
+    assert_eq!(seen, [0, 1, 2, 3, 4, 5, 6, 7, 8, 9, 11, 16, 17, 18, 19]);
+}
