@@ -1,9 +1,9 @@
 // The image: four calls on lent bytes.
-pub mod fresh;
-pub mod gate;
-pub mod line;
-pub mod memory;
-pub mod record;
+mod fresh;
+mod gate;
+mod line;
+mod memory;
+mod record;
 
 use crate::fresh::lay_header;
 use crate::fresh::lay_refusal;

@@ -1,4 +1,5 @@
-// Numbers in lent bytes, least byte first.
+// Numbers in lent bytes, least byte first. All are public for the readers and writers of a format, who have checked its length, and
+// ask that the bytes lie inside.
 ghost use mathlib.Core.Path.{_≡_};
 ghost use Prim.Native.Nat.{_+_, _≤_};
 ghost use lib.ListN.{length};
