@@ -1,9 +1,8 @@
 // What is written: numbers, and what they stand for.
 use libc::STDOUT_FILENO;
-use party::Answer;
 use party::Answered;
-ghost use mathlib.Core.Path.{_≡_};
-ghost use Rattle.party.specs.Answer.{numberOf, carriedOf};
+use party::carried;
+use party::number;
 
 pub fn first(n: u64) {
     io::print_decimal(STDOUT_FILENO, n);
@@ -30,38 +29,12 @@ pub fn words(strip: &[u64]) {
     }
 }
 
-fn number_of(answer: Answer) -> u32
-    ensures { λ n. ⌜ n ≡ numberOf answer ⌝ }
-{
-    match answer {
-        Answer::GoesOn => 0,
-        Answer::Pushed => 16,
-        Answer::Popped(_) => 17,
-        Answer::Full => 18,
-        Answer::Empty => 19,
-        Answer::Refused(number) => number,
-    }
-}
-
-fn carried_of(answer: Answer) -> u32
-    ensures { λ n. ⌜ n ≡ carriedOf answer ⌝ }
-{
-    match answer {
-        Answer::Popped(order) => order,
-        Answer::GoesOn => 0,
-        Answer::Pushed => 0,
-        Answer::Full => 0,
-        Answer::Empty => 0,
-        Answer::Refused(_) => 0,
-    }
-}
-
 // The number, the carried order and the record.
 pub fn answered(got: Answered) {
     let answer = got.answer;
     let r = got.rec;
-    first(number_of(answer) as u64);
-    more(carried_of(answer) as u64);
+    first(number(answer) as u64);
+    more(carried(answer) as u64);
     more(r.operation as u64);
     more(r.stage as u64);
     more(r.k as u64);
