@@ -1,4 +1,5 @@
 // A line of the table made in the bytes of an image: its access, and what follows it written in the record at a place.
+// Private to the crate, whose calls have checked the header: these ask that the bytes lie inside.
 use crate::memory::look_in;
 use crate::memory::swap_in;
 use crate::record::write_record;

@@ -1,4 +1,5 @@
 // The two accesses to a word, in the bytes of an image.
+// Private to the crate, whose calls have checked the header: these ask that the bytes lie inside.
 use little::number_8;
 use little::put_8;
 use word::Swapped;
