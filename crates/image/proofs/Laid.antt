@@ -1,12 +1,12 @@
 -- The promise of lay, from what the code finds on its way.
 use Prim.Native.Nat.{ℕ, _+_, _*_, _≤_}
-use mathlib.Core.Path.{_≡_, refl, sym, _∙_}
+use mathlib.Core.Path.{_≡_, refl, _∙_}
 use mathlib.Core.Bool.{true, false, not}
 use mathlib.Core.List.{List}
 use lib.ListN.{length, replicate}
 use lib.Seq.{sets, length-sets}
 use lib.Dec.{leb}
-use borrow.Author.Tests.{leb-true, not-false, ne-eqb}
+use borrow.Author.Tests.{leb-true, not-false}
 use Rattle.logic.proofs.Bools.{both, passed}
 use Rattle.party.specs.declared.Answer.the-variants.{GoesOn, Refused}
 use Rattle.party.proofs.Cleared.{max-within}

@@ -1,16 +1,11 @@
 -- A fresh image, part by part: the header, the zeros one by one, the words of RN one by one.
-use Prim.Native.Nat.{ℕ, zero, suc, _+_, _-_, _*_, _≤_, _<_}
+use Prim.Native.Nat.{ℕ, zero, suc, _+_, _-_, _*_, _≤_}
 use mathlib.Core.Path.{_≡_, refl, sym, _∙_, ap}
-use mathlib.Core.Bool.{Bool, true, false}
 use mathlib.Core.List.{List, [], _∷_, _++_, append-assoc, append-nil}
-use lib.ListN.{length, getD, set, take, replicate, length-set, length-append, length-replicate, length-take, getD-replicate, replicate-append-replicate, List·getD-append}
-use lib.Seq.{sets, length-sets, take-suc, getD-append-add}
-use lib.Dec.{leb}
-use borrow.Author.Tests.{leb-true, leb-false}
-use native.Mathlib.Numerals.{add-one}
+use lib.ListN.{length, set, replicate, length-set, length-append, length-replicate, replicate-append-replicate}
+use lib.Seq.{sets, length-sets}
 use native.Mathlib.Omega.{arith}
-use Rattle.logic.specs.Pick.{pick}
-use Rattle.word.specs.Word.{wordOf, LN, RN}
+use Rattle.word.specs.Word.{RN}
 use Rattle.strip.specs.Lay.{leftsOf, rightsOf, freshStrip}
 use Rattle.little.specs.Bytes.{bytesOf}
 use Rattle.image.specs.Format.{lengthOf}
