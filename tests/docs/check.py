@@ -76,8 +76,10 @@ def check_names():
 
 
 def check_calls():
-    """`crate::name` is a public function, type or module of that crate."""
+    """`crate::name` is a public function, type or module of that crate. BENCHMARK has the compiler's names, of the day it ran."""
     for page in PAGES:
+        if page.name == "BENCHMARK.md":
+            continue
         for where, line in prose(page):
             for crate, name in re.findall(r"`([a-z_]+)::(?:[a-z_]+::)*([\w]+)`", line):
                 if crate in CRATES:
