@@ -1,0 +1,157 @@
+"""Holds README.md and docs/*.md against the tree. Run in the repository's root."""
+import re
+import sys
+from pathlib import Path
+
+LINK = re.compile(r"\[[^\]]*\]\(([^)\s]+)\)")
+NAME = re.compile(r"`([A-Za-z][\w'-]*)`")
+PAGES = [Path("README.md"), Path("twin/README.md"), *sorted(Path("docs").glob("*.md"))]
+CRATES = {}  # name: the crates of ours that it uses
+for line in Path("crates.txt").read_text().splitlines():
+    if line and not line.startswith("#"):
+        crate, uses = line.split(":")
+        CRATES[crate] = uses.split()
+
+faults = []
+counts = dict.fromkeys(["links", "names", "calls", "paths", "edits", "crates", "programs"], 0)
+
+
+def check(kind, held, fault):
+    counts[kind] += 1
+    if not held:
+        faults.append(fault)
+
+
+def occurs(name, text):
+    return re.search(rf"(?<![\w'-]){re.escape(name)}(?![\w'-])", text) is not None
+
+
+def prose(page):
+    """The lines of a page outside its fenced blocks, with their numbers."""
+    fenced = False
+    for number, line in enumerate(page.read_text().splitlines(), 1):
+        if line.startswith("```"):
+            fenced = not fenced
+        elif not fenced:
+            yield f"{page}:{number}", line
+
+
+def sources(page, text):
+    """The code and proof files that a text links to."""
+    linked = [page.parent / target for target in LINK.findall(text)]
+    return [path for path in linked if path.suffix in (".antt", ".rt") and path.is_file()]
+
+
+def check_links():
+    for page in PAGES:
+        for where, line in prose(page):
+            for target in LINK.findall(line):
+                if not re.match(r"[a-z]+:", target):
+                    check("links", (page.parent / target.split("#")[0]).exists(), f"{where}: no file {target}")
+
+
+def held_by(where, names, paths):
+    text = "\n".join(path.read_text() for path in paths)
+    for name in names:
+        check("names", occurs(name, text), f"{where}: `{name}` is not in {', '.join(map(str, paths))}")
+
+
+def check_names():
+    """A name beside a link stands in the linked file: names and links in one part of a cell, or a cell of links after one of names;
+    in running text, names followed by 'in [..](..)'."""
+    for page in PAGES:
+        for where, line in prose(page):
+            if line.startswith("|"):
+                before = []
+                for cell in line.strip("|").split(" | "):
+                    for part in cell.split(";"):
+                        names = NAME.findall(part)
+                        if sources(page, part):
+                            held_by(where, names or before, sources(page, part))
+                    before = NAME.findall(cell)
+            else:
+                for names, link in re.findall(r"((?:`[^`]+`(?:, | and )?)+) in (\[[^\]]*\]\([^)]+\))", line):
+                    if sources(page, link):
+                        held_by(where, NAME.findall(names), sources(page, link))
+
+
+def check_calls():
+    """`crate::name` is a public function, type or module of that crate. BENCHMARK has the compiler's names, of the day it ran."""
+    for page in PAGES:
+        if page.name == "BENCHMARK.md":
+            continue
+        for where, line in prose(page):
+            for crate, name in re.findall(r"`([a-z_]+)::(?:[a-z_]+::)*([\w]+)`", line):
+                if crate in CRATES:
+                    text = "\n".join(path.read_text() for path in Path("crates", crate, "src").rglob("*.rt"))
+                    found = re.search(rf"^pub (fn|struct|enum|mod) {name}\b", text, re.M)
+                    check("calls", found, f"{where}: no public {name} in {crate}")
+
+
+def check_paths():
+    """A path in backquotes is there, from the root or from the page, or from crates/ with or without the ending."""
+    top = {path.name for path in Path(".").iterdir()} - {"target"}
+    for page in PAGES:
+        for where, line in prose(page):
+            for path in re.findall(r"`([\w.-]+/[\w./-]*)`", line):
+                first = path.split("/")[0]
+                if "NAME" in path:
+                    continue
+                if first in top:
+                    found = Path(path).exists() or (page.parent / path).exists()
+                    check("paths", found, f"{where}: no {path}")
+                elif first in CRATES:
+                    file = Path("crates", path)
+                    check("paths", file.exists() or file.with_suffix(".antt").exists(), f"{where}: no crates/{path}")
+
+
+def check_edits():
+    """Every edit that PROMISES names, as crate/`edit` and further `edit`s in that part, is there; and every edit is named."""
+    page, named = Path("docs/PROMISES.md"), set()
+    for where, line in prose(page):
+        for cell in line.split(" | "):
+            for crate, rest in re.findall(r"(?<![\w/.-])([a-z_]+)/((?:`[^`/]+`(?:, )?)+)", cell):
+                for edit in re.findall(r"`([^`]+)`", rest):
+                    named.add((crate, edit))
+                    check("edits", Path("crates", crate, "must-fail", f"{edit}.edit").is_file(), f"{where}: no edit {crate}/{edit}")
+    for path in sorted(Path("crates").glob("*/must-fail/*.edit")):
+        crate, edit = path.parts[1], path.stem
+        check("edits", (crate, edit) in named, f"{page}: does not name the edit {crate}/{edit}")
+
+
+def check_map():
+    """Every crate has a row in ARCHITECTURE and its place in the map; the arrows say what crates.txt says, with what follows."""
+    page = Path("docs/ARCHITECTURE.md")
+    text = page.read_text()
+    arrows = {pair for pair in re.findall(r"^ *(\w+) --> (\w+)$", text, re.M) if set(pair) <= CRATES.keys()}
+    for crate, uses in CRATES.items():
+        check("crates", re.search(rf"^\| `{crate}` \|", text, re.M), f"{page}: no row for the crate {crate}")
+        check("crates", any(crate in pair for pair in arrows), f"{page}: the crate {crate} is not in the map")
+        reached, new = set(), {crate}
+        while new:
+            new = {to for of, to in arrows if of in new} - reached
+            reached |= new
+        for used in (set(uses) | reached) & CRATES.keys():
+            check("crates", used in reached, f"{page}: no way in the map from {crate} to {used}, which it uses")
+    for of, to in sorted(arrows):
+        check("crates", to in CRATES[of], f"{page}: {of} --> {to}, and crates.txt does not say so")
+
+
+def check_programs():
+    """A fenced block after a line that ends in a link to a file and a colon is that file."""
+    shown = re.findall(r"\]\(([^)]+)\):\n\n```\w*\n(.*?)^```$", Path("README.md").read_text(), re.M | re.S)
+    for path, block in shown:
+        check("programs", Path(path).is_file() and Path(path).read_text() == block, f"README.md: {path} is not as shown")
+    for path in ["examples/first.c", "rust/examples/first.rs"]:
+        check("programs", path in dict(shown), f"README.md: does not show {path}")
+
+
+for part in [check_links, check_names, check_calls, check_paths, check_edits, check_map, check_programs]:
+    part()
+for kind, count in counts.items():
+    if count == 0:
+        faults.append(f"docs: no {kind} found to check")
+for fault in faults:
+    print(fault, file=sys.stderr)
+print("documents: " + ", ".join(f"{count} {kind}" for kind, count in counts.items()) + f" checked, {len(faults)} faults")
+sys.exit(1 if faults else 0)
