@@ -32,7 +32,7 @@ length-table-bytes (r ∷ table) =
 pub party-laid : (l : List ℕ) (at : ℕ) (r : Record) → sets (sets l at (recordBytes r)) (at + 24) (bytesOf 8 0) ≡ sets l at (partyBytes r)
 party-laid l at r = sym (run-append (recordBytes r) (bytesOf 8 0) l at ∙ rw (length-record r) refl)
 
-first-laid : (l : List ℕ) (at : ℕ) (r : Record) (table : List Record)
+pub first-laid : (l : List ℕ) (at : ℕ) (r : Record) (table : List Record)
     → sets l at (tableBytes (r ∷ table)) ≡ sets (sets l at (partyBytes r)) (at + 32) (tableBytes table)
 unfolding tableBytes
 first-laid l at r table = run-append (partyBytes r) (tableBytes table) l at ∙ rw (length-party r) refl
