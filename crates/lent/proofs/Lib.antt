@@ -1,2 +1,3 @@
+pub mod Again
 pub mod Steps
 pub mod Prelude
