@@ -1,9 +1,10 @@
 -- A fresh image, part by part: the header, the zeros one by one, the words of RN one by one.
-use Prim.Native.Nat.{ℕ, zero, suc, _+_, _-_, _*_, _≤_}
+use Prim.Native.Nat.{ℕ, zero, suc, _+_, _-_, _*_, _≤_, _<_}
 use mathlib.Core.Path.{_≡_, refl, sym, _∙_, ap}
 use mathlib.Core.List.{List, [], _∷_, _++_, append-assoc, append-nil}
-use lib.ListN.{length, set, replicate, length-set, length-append, length-replicate, replicate-append-replicate}
-use lib.Seq.{sets, length-sets}
+use lib.ListN.{length, set, replicate, length-set, length-append, length-replicate, replicate-append-replicate, getD, take, length-take}
+use lib.Seq.{sets, length-sets, take-suc}
+use native.Mathlib.Numerals.{add-one}
 use native.Mathlib.Omega.{arith}
 use Rattle.word.specs.Word.{RN}
 use Rattle.strip.specs.Lay.{leftsOf, rightsOf, freshStrip}
@@ -64,17 +65,17 @@ zero-words (suc n) =
     ap (λ (r : List ℕ). replicate 8 0 ++ r) (zero-words n)
     ∙ replicate-append-replicate {A = ℕ} 8 (8 * n) 0 ∙ ap (λ (k : ℕ). replicate k 0) eight-more
 
--- a run of one word, word by word
-pub one-word-more : (l : List ℕ) (at i word : ℕ)
-    → sets (sets l at (wordBytes (replicate i word))) (at + 8 * i) (bytesOf 8 word) ≡ sets l at (wordBytes (replicate (i + 1) word))
+-- words, one by one
+pub one-word-more : (words l : List ℕ) (at i : ℕ) → i < length words
+    → sets (sets l at (wordBytes (take i words))) (at + 8 * i) (bytesOf 8 (getD words i 0)) ≡ sets l at (wordBytes (take (i + 1) words))
 unfolding wordBytes
-one-word-more l at i word =
-    let first = wordBytes (replicate i word) in
-    let long : length first ≡ 8 * i = length-word-bytes (replicate i word) ∙ ap (λ (n : ℕ). 8 * n) (length-replicate {A = ℕ} i word) in
-    let more : wordBytes (replicate (i + 1) word) ≡ first ++ bytesOf 8 word =
-    ap wordBytes (sym (replicate-append-replicate {A = ℕ} i 1 word))
-    ∙ word-bytes-append (replicate i word) (word ∷ []) ∙ ap (λ (r : List ℕ). first ++ r) (append-nil (bytesOf 8 word)) in
-    rw more (sym (run-append first (bytesOf 8 word) l at ∙ rw long refl))
+one-word-more words l at i h =
+    let first = wordBytes (take i words) in
+    let word = bytesOf 8 (getD words i 0) in
+    let long : length first ≡ 8 * i = length-word-bytes (take i words) ∙ rw (length-take i words) (omega arith) in
+    let more : wordBytes (take (i + 1) words) ≡ first ++ word =
+    rw (add-one i, take-suc words i 0 h, word-bytes-append (take i words) (getD words i 0 ∷ [])) (ap (λ (r : List ℕ). first ++ r) (append-nil word)) in
+    rw more (sym (run-append first word l at ∙ rw long refl))
 
 -- all of them: the header, zeros to the end, RN past the divide
 pub fresh-laid : (l : List ℕ) (max parties divide : ℕ) → divide ≤ max → length l ≡ lengthOf max parties

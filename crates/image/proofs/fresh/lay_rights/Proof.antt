@@ -1,10 +1,11 @@
-use Prim.Native.Nat.{ℕ, _+_, _*_, _-_, _/_, _≤_}
+use Prim.Native.Nat.{ℕ, _+_, _*_, _-_, _/_, _≤_, _<_}
 use mathlib.Core.Path.{_≡_, refl, sym, _∙_, ap}
 use mathlib.Core.List.{List}
-use lib.ListN.{length, replicate}
-use lib.Seq.{sets, length-sets}
+use lib.ListN.{length, getD, take, length-replicate, getD-replicate}
+use lib.Seq.{sets, length-sets, take-all}
 use denote.Ref.{now}
 use native.Mathlib.Omega.{arith}
+use Rattle.strip.specs.Lay.{rightsOf}
 use Rattle.little.specs.Bytes.{bytesOf}
 use Rattle.image.specs.Format.{wordPlace}
 use Rattle.image.specs.Spelling.{wordBytes}
@@ -13,8 +14,8 @@ use Rattle.image.proofs.fresh.lay_rights.Statement.{statement}
 use Rattle.image.proofs.fresh.lay_rights.Tie as tie
 
 -- the first i words past the divide, and how many are laid before a place
-abbrev laid : List ℕ → (divide i : ℕ) → List ℕ
-laid image divide i = sets image (wordPlace (divide + 1)) (wordBytes (replicate i 1))
+abbrev laid : List ℕ → (max divide i : ℕ) → List ℕ
+laid image max divide i = sets image (wordPlace (divide + 1)) (wordBytes (take i (rightsOf max divide)))
 
 abbrev count : (divide at : ℕ) → ℕ
 count divide at = (at - wordPlace (divide + 1)) / 8
@@ -24,7 +25,7 @@ abbrev Whole : (divide at : ℕ) → Type 0
 Whole divide at = wordPlace (divide + 1) + 8 * count divide at ≡ at
 
 abbrev Inv-loop : tie.InvT-loop
-Inv-loop image₀ max divide end at₀ image at = (at ≤ end) × Whole divide at × (image ≡ laid image₀ divide (count divide at))
+Inv-loop image₀ max divide end at₀ image at = (at ≤ end) × Whole divide at × (image ≡ laid image₀ max divide (count divide at))
 
 abbrev μ-loop : tie.MeasureT-loop
 μ-loop image₀ max divide end at₀ image at = end - at
@@ -32,7 +33,7 @@ abbrev μ-loop : tie.MeasureT-loop
 kept : (c : tie.At-loop Inv-loop μ-loop) → length (c .loop .image) ≡ length (now (c .before .before .args .image))
 kept c =
     let a = c .before .before .args in
-    ap length (c .loop .inv .2) ∙ length-sets (now (a .image)) (wordPlace (a .divide + 1)) (wordBytes (replicate (count (a .divide) (c .loop .at)) 1))
+    ap length (c .loop .inv .2) ∙ length-sets (now (a .image)) (wordPlace (a .divide + 1)) (wordBytes (take (count (a .divide) (c .loop .at)) (rightsOf (a .max) (a .divide))))
 
 add-end : tie.Need-add-end Inv-loop μ-loop
 add-end c = omega arith
@@ -79,15 +80,19 @@ loop-again c =
     let at = loop .loop .at in
     let i = count (a .divide) at in
     let whole = loop .loop .inv .1 in
+    let inside : i < a .max - a .divide + 1 = omega (arith, loop .before .before .pre) in
+    let long : length (rightsOf (a .max) (a .divide)) ≡ a .max - a .divide + 1 = length-replicate {A = ℕ} (a .max - a .divide + 1) 1 in
+    let right : getD (rightsOf (a .max) (a .divide)) i 0 ≡ 1 = getD-replicate {A = ℕ} (a .max - a .divide + 1) i 1 0 inside in
     let more : count (a .divide) (at + 8) ≡ i + 1 = omega arith in
     let one : wordPlace (a .divide + 1) + 8 * count (a .divide) (at + 8) ≡ at + 8 = rw more (omega arith) in (
       omega arith,
       one,
       put .put-8 .ensures
           ∙ ap (λ (l : List ℕ). sets l at (bytesOf 8 1)) (loop .loop .inv .2)
-          ∙ ap (λ (k : ℕ). sets (laid image (a .divide) i) k (bytesOf 8 1)) (sym whole)
-          ∙ one-word-more image (wordPlace (a .divide + 1)) i 1
-          ∙ ap (laid image (a .divide)) (sym more),
+          ∙ ap (λ (k : ℕ). sets (laid image (a .max) (a .divide) i) k (bytesOf 8 1)) (sym whole)
+          ∙ ap (λ (w : ℕ). sets (laid image (a .max) (a .divide) i) (wordPlace (a .divide + 1) + 8 * i) (bytesOf 8 w)) (sym right)
+          ∙ one-word-more (rightsOf (a .max) (a .divide)) image (wordPlace (a .divide + 1)) i (rw long inside)
+          ∙ ap (laid image (a .max) (a .divide)) (sym more),
     )
 
 same-length : tie.Need-same-length Inv-loop μ-loop
@@ -97,8 +102,10 @@ returns : tie.Need-returns Inv-loop μ-loop
 returns c =
     let loop = c .before in
     let a = loop .before .before .args in
-    let all : count (a .divide) (loop .loop .at) ≡ a .max - a .divide + 1 = omega (arith, loop .before .before .pre) in
-    loop .loop .inv .2 ∙ ap (laid (now (a .image)) (a .divide)) all
+    let long : length (rightsOf (a .max) (a .divide)) ≡ a .max - a .divide + 1 = length-replicate {A = ℕ} (a .max - a .divide + 1) 1 in
+    loop .loop .inv .2
+    ∙ ap (λ (words : List ℕ). sets (now (a .image)) (wordPlace (a .divide + 1)) (wordBytes words))
+    (take-all (count (a .divide) (loop .loop .at)) (rightsOf (a .max) (a .divide)) (omega (arith, loop .before .before .pre)))
 
 pub lay-rights-spec : {M : Type 1} → statement M
 lay-rights-spec =

@@ -56,7 +56,7 @@ loop-again c =
       omega arith,
       put .put-8 .ensures
           ∙ ap (λ (l : List ℕ). sets l (8 + 8 * loop .i) (bytesOf 8 (getD strip (loop .i) 0))) (loop .inv .1)
-          ∙ one-word-more strip (now (a .image)) (loop .i) (omega arith),
+          ∙ one-word-more strip (now (a .image)) 8 (loop .i) (omega arith),
     )
 
 same-length : tie.Need-same-length Inv-loop μ-loop
