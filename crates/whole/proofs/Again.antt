@@ -9,21 +9,20 @@ use lib.Dec.{eqb, ltb}
 use borrow.Author.Tests.{eqb-true, eq-eqb, le-leb, not-false}
 use native.Mathlib.Omega.{arith}
 use Rattle.logic.proofs.Bools.{both, passed}
-use Rattle.party.specs.Record.{idle}
 use Rattle.party.specs.Valid.{validOf}
 use Rattle.party.specs.declared.Record.{Record}
 use Rattle.step.specs.Step.{maxOf}
 use Rattle.little.specs.Bytes.{numberAt, bytesOf}
 use Rattle.little.proofs.Digits.{AreBytes, read-is-laid}
-use Rattle.image.specs.Format.{recordPlace, lengthOf, isMarked, maxAt, partiesAt, headerRefusal}
-use Rattle.image.specs.Spelling.{stripOf, tableOf, recordAt, recordsFrom, isSpare, wordBytes, recordBytes}
+use Rattle.image.specs.Format.{recordPlace, isMarked, maxAt, partiesAt, headerRefusal}
+use Rattle.image.specs.Spelling.{stripOf, tableOf, recordAt, recordsFrom, isSpare, wordBytes}
 use Rattle.image.specs.Calls.{headerBytes}
 use Rattle.image.proofs.Parts.{read-parts-laid}
 use Rattle.image.proofs.Words.{wordPart, words-are-parts, words-laid-are-parts}
 use Rattle.image.proofs.Records.{read-record-laid}
 use Rattle.image.proofs.Laying.{header-laid}
 use Rattle.image.proofs.Spelled.{strip-length, table-length, record-is-read}
-use Rattle.whole.specs.Whole.{allBelow, isSound, readRefusal, ReadPromise, sizesAgree, isValidIn, partyBytes, tableBytes, writeRefusal, writtenOf, WritePromise}
+use Rattle.whole.specs.Whole.{allBelow, isSound, ReadPromise, sizesAgree, isValidIn, partyBytes, tableBytes, writeRefusal, writtenOf, WritePromise}
 use Rattle.whole.proofs.Below.{each-below, all-of-each}
 use Rattle.whole.proofs.Checked.{Lent, Readable, readable}
 use Rattle.whole.proofs.Laid.{party-laid, first-laid, written-laid}

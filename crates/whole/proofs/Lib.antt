@@ -5,3 +5,4 @@ pub mod Checked
 pub mod Promised
 pub mod Kept
 pub mod Again
+pub mod Back

@@ -3,7 +3,6 @@
 use Prim.Native.Nat.{ℕ, _+_, _≤_, _<_, _^_}
 use native.Mathlib.Nat.{le-antisymm}
 use native.Mathlib.Omega.{arith}
-use mathlib.Core.Bool.{Bool, true, false}
 use mathlib.Core.Path.{_∙_}
 use lib.ListN.{length, getD}
 use denote.Struct.Laws as LL
