@@ -19,6 +19,7 @@ function whole(kind, max, operation, library,    i, sum) {
 }
 
 function cell(kind, proved, ordinary) {
+    if (ordinary <= 0) return " not measured |"
     return sprintf(kind == "count" && proved > ordinary ? " **%.2f** (%s / %s) |" : " %.2f (%s / %s) |", \
         proved / ordinary, plain(kind, proved), plain(kind, ordinary))
 }
