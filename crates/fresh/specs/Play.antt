@@ -1,6 +1,6 @@
 -- The four operations on a plain strip: what each answers and leaves.
 use Prim.Native.Nat.{ℕ, _+_, _-_}
-use mathlib.Core.List.{List, [], _∷_, _++_}
+use mathlib.Core.List.{[], _∷_, _++_}
 use lib.ListN.{length, getD, take, drop}
 use lib.Dec.{eqb}
 use Rattle.logic.specs.Pick.{pick}

@@ -1,16 +1,16 @@
 -- The promise of lay, from what the code finds on its way.
 use Prim.Native.Nat.{ℕ, _+_, _*_, _≤_}
-use mathlib.Core.Path.{_≡_, refl, sym, _∙_}
-use mathlib.Core.Bool.{not}
+use mathlib.Core.Path.{_≡_, refl, _∙_}
+use mathlib.Core.Bool.{true, false, not}
 use mathlib.Core.List.{List}
 use lib.ListN.{length, replicate}
 use lib.Seq.{sets, length-sets}
 use lib.Dec.{leb}
-use borrow.Author.Tests.{leb-true, not-false, ne-eqb}
+use borrow.Author.Tests.{leb-true, not-false}
 use Rattle.logic.proofs.Bools.{both, passed}
 use Rattle.party.specs.declared.Answer.the-variants.{GoesOn, Refused}
 use Rattle.party.proofs.Cleared.{max-within}
-use Rattle.strip.specs.Lay.{freshStrip}
+use Rattle.strip.specs.Lay.{rightsOf}
 use Rattle.image.specs.Format.{lengthOf, sizesFit}
 use Rattle.image.specs.Spelling.{wordBytes}
 use Rattle.image.specs.Calls.{headerBytes, layRefusal, layOf, ImagePromise}
@@ -41,26 +41,34 @@ layable bytes max parties divide e =
 abbrev pub headed : List ℕ → (max parties : ℕ) → List ℕ
 headed image max parties = sets image 0 (headerBytes max parties)
 
-abbrev pub worded : List ℕ → (max parties divide : ℕ) → List ℕ
-worded image max parties divide = sets (headed image max parties) 8 (wordBytes (freshStrip max divide))
+abbrev pub blank : List ℕ → (max parties : ℕ) → List ℕ
+blank image max parties = sets (headed image max parties) 8 (replicate (8 * (max + 2) + 32 * parties) 0)
 
 pub length-headed : (image : List ℕ) (max parties : ℕ) → length (headed image max parties) ≡ length image
 length-headed image max parties = length-sets image 0 (headerBytes max parties)
 
-pub length-worded : (image : List ℕ) (max parties divide : ℕ) → length (worded image max parties divide) ≡ length image
-length-worded image max parties divide =
-    length-sets (headed image max parties) 8 (wordBytes (freshStrip max divide)) ∙ length-headed image max parties
+pub length-blank : (image : List ℕ) (max parties : ℕ) → length (blank image max parties) ≡ length image
+length-blank image max parties =
+    length-sets (headed image max parties) 8 (replicate (8 * (max + 2) + 32 * parties) 0) ∙ length-headed image max parties
 
-module _ (image : List ℕ) (max parties divide number : ℕ) (e : number ≡ layRefusal (length image) max parties divide) where
-  pub keeps-lay-refused : (number ≡ 0 → ⊥) → ImagePromise (layOf image max parties divide) (Refused number) image
-  unfolding layOf
-  keeps-lay-refused some = promise (rw (← e, ne-eqb number 0 some) refl)
+module _ (image : List ℕ) (max parties divide : ℕ) where
+  pub keeps-lay-size : sizesFit (length image) max parties ≡ false → ImagePromise (layOf image max parties divide) (Refused 1) image
+  unfolding layOf layRefusal
+  keeps-lay-size other = promise (rw other refl)
 
-  pub keeps-lay-done : number ≡ 0 → (left : List ℕ)
-      → left ≡ sets (worded image max parties divide) (8 + 8 * (max + 2)) (replicate (32 * parties) 0)
+  pub keeps-lay-divide : sizesFit (length image) max parties ≡ true → leb divide max ≡ false
+      → ImagePromise (layOf image max parties divide) (Refused 8) image
+  unfolding layOf layRefusal
+  keeps-lay-divide sized past = promise (rw (sized, past) refl)
+
+  pub keeps-lay-done : Layable (length image) max parties divide → layRefusal (length image) max parties divide ≡ 0 → (left : List ℕ)
+      → left ≡ sets (blank image max parties) (8 + 8 * (divide + 1)) (wordBytes (rightsOf max divide))
       → ImagePromise (layOf image max parties divide) GoesOn left
   unfolding layOf
-  keeps-lay-done none left laid =
-      let fits = layable (length image) max parties divide (sym e ∙ none) in
+  keeps-lay-done fits none left laid =
       let fresh = laid ∙ fresh-laid image max parties divide (fits .divided) (fits .exact) in
-      promise (rw (← e, none, fresh) refl)
+      promise (rw (none, fresh) refl)
+
+  pub none-refused : sizesFit (length image) max parties ≡ true → leb divide max ≡ true → layRefusal (length image) max parties divide ≡ 0
+  unfolding layRefusal
+  none-refused sized low = rw (sized, low) refl

@@ -1,22 +1,17 @@
--- A fresh image, part by part: the header, the words one by one, the zeros one by one.
-use Prim.Native.Nat.{ℕ, _+_, _-_, _*_, _≤_, _<_}
+-- A fresh image, part by part: the header, the zeros one by one, the words of RN one by one.
+use Prim.Native.Nat.{ℕ, zero, suc, _+_, _-_, _*_, _≤_}
 use mathlib.Core.Path.{_≡_, refl, sym, _∙_, ap}
-use mathlib.Core.Bool.{Bool, true, false}
 use mathlib.Core.List.{List, [], _∷_, _++_, append-assoc, append-nil}
-use lib.ListN.{length, getD, set, take, replicate, length-set, length-append, length-replicate, length-take, getD-replicate, replicate-append-replicate, List·getD-append}
-use lib.Seq.{sets, length-sets, take-suc, getD-append-add}
-use lib.Dec.{leb}
-use borrow.Author.Tests.{leb-true, leb-false}
-use native.Mathlib.Numerals.{add-one}
+use lib.ListN.{length, set, replicate, length-set, length-append, length-replicate, replicate-append-replicate}
+use lib.Seq.{sets, length-sets}
 use native.Mathlib.Omega.{arith}
-use Rattle.logic.specs.Pick.{pick}
-use Rattle.word.specs.Word.{wordOf, LN, RN}
-use Rattle.strip.specs.Lay.{freshStrip}
+use Rattle.word.specs.Word.{RN}
+use Rattle.strip.specs.Lay.{leftsOf, rightsOf, freshStrip}
 use Rattle.little.specs.Bytes.{bytesOf}
 use Rattle.image.specs.Format.{lengthOf}
 use Rattle.image.specs.Spelling.{wordBytes}
 use Rattle.image.specs.Calls.{headerBytes, freshImage}
-use Rattle.little.proofs.Runs.{run-append, whole-run}
+use Rattle.little.proofs.Runs.{run-append, whole-run, middle-run}
 use Rattle.little.proofs.Digits.{length-bytes}
 
 -- the header, store by store
@@ -50,61 +45,72 @@ length-word-bytes [] = refl
 length-word-bytes (w ∷ words) =
     length-append (bytesOf 8 w) (wordBytes words) ∙ omega (arith, length-bytes 8 w, length-word-bytes words)
 
-pub one-word-more : (strip l : List ℕ) (i : ℕ) → i < length strip
-    → sets (sets l 8 (wordBytes (take i strip))) (8 + 8 * i) (bytesOf 8 (getD strip i 0)) ≡ sets l 8 (wordBytes (take (i + 1) strip))
-unfolding wordBytes
-one-word-more strip l i h =
-    let first = wordBytes (take i strip) in
-    let word = bytesOf 8 (getD strip i 0) in
-    let long : length first ≡ 8 * i = length-word-bytes (take i strip) ∙ rw (length-take i strip) (omega arith) in
-    let more : wordBytes (take (i + 1) strip) ≡ first ++ word =
-    rw (add-one i, take-suc strip i 0 h, word-bytes-append (take i strip) (getD strip i 0 ∷ [])) (ap (λ (r : List ℕ). first ++ r) (append-nil word)) in
-    rw more (sym (run-append first word l 8 ∙ rw long refl))
-
-pub fresh-word : (max divide i : ℕ) → divide ≤ max → i < max + 2 → getD (freshStrip max divide) i 0 ≡ pick (leb i divide) 0 1
-fresh-word max divide i h inside = go (leb i divide) refl
-  where
-    lefts : List ℕ
-    lefts = replicate (divide + 1) (wordOf 0 LN)
-
-    rights : List ℕ
-    rights = replicate (max - divide + 1) (wordOf 0 RN)
-
-    go : (left : Bool) → leb i divide ≡ left → getD (freshStrip max divide) i 0 ≡ pick left 0 1
-    go true e =
-        let low = leb-true i divide e in
-        List·getD-append lefts rights 0 i (rw (length-replicate {A = ℕ} (divide + 1) 0) (omega arith))
-        ∙ getD-replicate {A = ℕ} (divide + 1) i 0 0 (omega arith)
-    go false e =
-        let high = leb-false i divide e in
-        let past : i ≡ length lefts + (i - (divide + 1)) = rw (length-replicate {A = ℕ} (divide + 1) 0) (omega arith) in
-        ap (λ (k : ℕ). getD (lefts ++ rights) k 0) past
-        ∙ getD-append-add lefts rights (i - (divide + 1)) 0
-        ∙ getD-replicate {A = ℕ} (max - divide + 1) (i - (divide + 1)) 1 0 (omega arith)
-
 pub length-fresh : (max divide : ℕ) → divide ≤ max → length (freshStrip max divide) ≡ max + 2
 length-fresh max divide h = simp (length-append, length-replicate) (omega arith)
 
--- the zeros
+-- a run of zeros, byte by byte
 pub one-zero-more : (l : List ℕ) (at i : ℕ) → set (sets l at (replicate i 0)) (at + i) 0 ≡ sets l at (replicate (i + 1) 0)
 one-zero-more l at i =
     let zeros : List ℕ = replicate i 0 in
     let long : length zeros ≡ i = length-replicate {A = ℕ} i 0 in
     rw (sym (replicate-append-replicate {A = ℕ} i 1 0)) (sym (run-append zeros (0 ∷ []) l at ∙ rw long refl))
 
--- all of them
+-- words of zero are zeros
+zero-words : (n : ℕ) → wordBytes (replicate n 0) ≡ replicate (8 * n) 0
+unfolding wordBytes bytesOf
+zero-words zero = refl
+zero-words (suc n) =
+    let eight-more : 8 + 8 * n ≡ 8 * suc n = omega arith in
+    ap (λ (r : List ℕ). replicate 8 0 ++ r) (zero-words n)
+    ∙ replicate-append-replicate {A = ℕ} 8 (8 * n) 0 ∙ ap (λ (k : ℕ). replicate k 0) eight-more
+
+-- a run of one word, word by word
+pub one-word-more : (l : List ℕ) (at i word : ℕ)
+    → sets (sets l at (wordBytes (replicate i word))) (at + 8 * i) (bytesOf 8 word) ≡ sets l at (wordBytes (replicate (i + 1) word))
+unfolding wordBytes
+one-word-more l at i word =
+    let first = wordBytes (replicate i word) in
+    let long : length first ≡ 8 * i = length-word-bytes (replicate i word) ∙ ap (λ (n : ℕ). 8 * n) (length-replicate {A = ℕ} i word) in
+    let more : wordBytes (replicate (i + 1) word) ≡ first ++ bytesOf 8 word =
+    ap wordBytes (sym (replicate-append-replicate {A = ℕ} i 1 word))
+    ∙ word-bytes-append (replicate i word) (word ∷ []) ∙ ap (λ (r : List ℕ). first ++ r) (append-nil (bytesOf 8 word)) in
+    rw more (sym (run-append first (bytesOf 8 word) l at ∙ rw long refl))
+
+-- all of them: the header, zeros to the end, RN past the divide
 pub fresh-laid : (l : List ℕ) (max parties divide : ℕ) → divide ≤ max → length l ≡ lengthOf max parties
-    → sets (sets (sets l 0 (headerBytes max parties)) 8 (wordBytes (freshStrip max divide))) (8 + 8 * (max + 2)) (replicate (32 * parties) 0)
+    → sets (sets (sets l 0 (headerBytes max parties)) 8 (replicate (8 * (max + 2) + 32 * parties) 0)) (8 + 8 * (divide + 1)) (wordBytes (rightsOf max divide))
     ≡ freshImage max parties divide
 fresh-laid l max parties divide h exact =
     let header = headerBytes max parties in
-    let words = wordBytes (freshStrip max divide) in
-    let zeros : List ℕ = replicate (32 * parties) 0 in
+    let words = wordBytes (rightsOf max divide) in
+    let lefts : List ℕ = replicate (8 * (divide + 1)) 0 in
+    let under : List ℕ = replicate (8 * (max - divide + 1)) 0 in
+    let records : List ℕ = replicate (32 * parties) 0 in
+    let zeros : List ℕ = replicate (8 * (max + 2) + 32 * parties) 0 in
+    let all : 8 * (divide + 1) + (8 * (max - divide + 1) + 32 * parties) ≡ 8 * (max + 2) + 32 * parties = omega arith in
     let short : length header ≡ 8 = length-header max parties in
-    let long : length words ≡ 8 * (max + 2) = length-word-bytes (freshStrip max divide) ∙ ap (λ (n : ℕ). 8 * n) (length-fresh max divide h) in
-    let all : length (freshImage max parties divide) ≡ length l =
-    length-append header (words ++ zeros) ∙ ap (λ (n : ℕ). length header + n) (length-append words zeros)
-    ∙ omega (arith, short, long, length-replicate {A = ℕ} (32 * parties) 0, exact) in
-    sym
-    (run-append header (words ++ zeros) l 0 ∙ rw short (run-append words zeros (sets l 0 header) 8 ∙ rw long refl))
-    ∙ whole-run (freshImage max parties divide) l all
+    let place : length (header ++ lefts) ≡ 8 + 8 * (divide + 1) =
+    length-append header lefts ∙ omega (arith, short, length-replicate {A = ℕ} (8 * (divide + 1)) 0) in
+    let same : length under ≡ length words =
+    length-replicate {A = ℕ} (8 * (max - divide + 1)) 0
+    ∙ sym (length-word-bytes (rightsOf max divide) ∙ ap (λ (n : ℕ). 8 * n) (length-replicate {A = ℕ} (max - divide + 1) 1)) in
+    let blank : sets (sets l 0 header) 8 zeros ≡ header ++ zeros =
+    sym (run-append header zeros l 0 ∙ rw short refl)
+    ∙ whole-run (header ++ zeros) l (length-append header zeros ∙ omega (arith, short, length-replicate {A = ℕ} (8 * (max + 2) + 32 * parties) 0, exact)) in
+    let parted : header ++ zeros ≡ (header ++ lefts) ++ (under ++ records) =
+    ap (λ (r : List ℕ). header ++ r)
+    (sym
+    (ap (λ (r : List ℕ). lefts ++ r) (replicate-append-replicate {A = ℕ} (8 * (max - divide + 1)) (32 * parties) 0)
+    ∙ replicate-append-replicate {A = ℕ} (8 * (divide + 1)) (8 * (max - divide + 1) + 32 * parties) 0
+    ∙ ap (λ (n : ℕ). replicate n 0) all))
+    ∙ sym (append-assoc header lefts (under ++ records)) in
+    let spelled : (header ++ lefts) ++ (words ++ records) ≡ freshImage max parties divide =
+    append-assoc header lefts (words ++ records)
+    ∙ ap (λ (r : List ℕ). header ++ r)
+    (sym (append-assoc lefts words records)
+    ∙ ap (λ (r : List ℕ). r ++ records)
+    (ap (λ (r : List ℕ). r ++ words) (sym (zero-words (divide + 1))) ∙ sym (word-bytes-append (leftsOf divide) (rightsOf max divide)))) in
+    ap (λ (r : List ℕ). sets r (8 + 8 * (divide + 1)) words) (blank ∙ parted)
+    ∙ ap (λ (at : ℕ). sets ((header ++ lefts) ++ (under ++ records)) at words) (sym place)
+    ∙ middle-run (header ++ lefts) under records words same
+    ∙ spelled

@@ -12,3 +12,4 @@ pub mod Promised
 pub mod Laying
 pub mod Laid
 pub mod Kept
+pub mod Decoded

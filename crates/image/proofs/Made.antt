@@ -1,43 +1,41 @@
 -- A swap made in the bytes of an image, by how it ended.
 use Prim.Native.Nat.{ℕ}
-use mathlib.Core.Path.{_≡_, refl, sym, _∙_, ap, subst}
-use mathlib.Core.Bool.{true, false, true≢false}
+use mathlib.Core.Path.{_≡_, refl}
 use mathlib.Core.List.{List}
-use Rattle.word.specs.Word.{raisedTo}
+use lib.Seq.{sets}
+use borrow.Author.Tests.{eq-eqb, ne-eqb}
+use Rattle.word.specs.Word.{counterOf, lastCounter, raisedTo}
 use Rattle.word.specs.declared.Swapped.{Swapped}
 use Rattle.word.specs.declared.Swapped.the-variants.{Won, Lost, Stuck}
+use Rattle.party.specs.Record.{again}
+use Rattle.party.specs.Answer.{goesOn}
 use Rattle.party.specs.declared.Record.{Record}
 use Rattle.party.specs.declared.Answer.{Answer}
-use Rattle.party.specs.declared.Answered.{Answered}
-use Rattle.party.specs.declared.Answer.the-variants.{Refused}
-use Rattle.step.specs.Follow.{swappedOf}
+use Rattle.party.specs.declared.Answer.the-variants.{GoesOn, Refused}
+use Rattle.step.specs.Follow.{wonOf, swappedOf}
 use Rattle.step.specs.declared.AfterSwap.{AfterSwap}
-use Rattle.image.specs.Read.{SwapIn, recorded, swapRecorded, isStuck, metAt, SwapMade}
+use Rattle.little.specs.Bytes.{numberAt, bytesOf}
+use Rattle.image.specs.Format.{wordPlace}
+use Rattle.image.specs.Read.{recorded, swapRecorded, metAt, SwapMade}
 
 module _ (image : List ℕ) (at : ℕ) (r : Record) (place from to : ℕ) (then : AfterSwap) where
-  Left : Swapped → Answer → List ℕ → Type 0
-  Left met answer left =
-      (answer ≡ swappedOf r then met .answer) × (left ≡ swapRecorded met image at place (raisedTo from to) (swappedOf r then met))
+  abbrev seen : ℕ
+  seen = numberAt 8 image (wordPlace place)
 
-  made : {met : Swapped} {answer : Answer} {left : List ℕ} → met ≡ metAt image place from → Left met answer left
+  made : (met : Swapped) (answer : Answer) (left : List ℕ) → metAt image place from ≡ met
+      → answer ≡ swappedOf r then met .answer → left ≡ swapRecorded met image at place (raisedTo from to) (swappedOf r then met)
       → SwapMade image at r place from to then answer left
-  unfolding Left
-  made {answer = answer} {left = left} e is =
-      let at-met = subst (λ (m : Swapped). Left m answer left) e is in
-      record { answered = at-met .0; bytes-left = at-met .1 }
+  made met answer left e a l = record { answered = rw e a; bytes-left = rw e l }
 
-  pub made-stuck : (met : Swapped) (left : List ℕ) → SwapIn image place from to met left → isStuck met ≡ true
-      → SwapMade image at r place from to then (Refused 9) left
-  unfolding Left
-  made-stuck Won left swap s = absurd (true≢false (sym s))
-  made-stuck (Lost met) left swap s = absurd (true≢false (sym s))
-  made-stuck Stuck left swap s = made (swap .answered) (refl, swap .bytes-left)
+  pub made-lost : (left : List ℕ) → (seen ≡ from → ⊥) → left ≡ recorded image at (goesOn (again r))
+      → SwapMade image at r place from to then GoesOn left
+  made-lost left other is = made (Lost seen) GoesOn left (rw (ne-eqb seen from other) refl) refl is
 
-  pub made-free : (met : Swapped) (left : List ℕ) (got : Answered) (end : List ℕ) → SwapIn image place from to met left → isStuck met ≡ false
-      → got ≡ swappedOf r then met → end ≡ recorded left at got → SwapMade image at r place from to then (got .answer) end
-  unfolding Left
-  made-free Won left got end swap s e f =
-      made (swap .answered) (ap (λ (a : Answered). a .answer) e, f ∙ rw (swap .bytes-left, e) refl)
-  made-free (Lost met) left got end swap s e f =
-      made (swap .answered) (ap (λ (a : Answered). a .answer) e, f ∙ rw (swap .bytes-left, e) refl)
-  made-free Stuck left got end swap s e f = absurd (true≢false s)
+  pub made-stuck : seen ≡ from → counterOf from ≡ lastCounter → SwapMade image at r place from to then (Refused 9) image
+  made-stuck same ended = made Stuck (Refused 9) image (rw (eq-eqb seen from same, eq-eqb (counterOf from) lastCounter ended) refl) refl refl
+
+  pub made-won : (answer : Answer) (left : List ℕ) → seen ≡ from → (counterOf from ≡ lastCounter → ⊥) → answer ≡ wonOf r then .answer
+      → left ≡ recorded (sets image (wordPlace place) (bytesOf 8 (raisedTo from to))) at (wonOf r then)
+      → SwapMade image at r place from to then answer left
+  made-won answer left same unended =
+      made Won answer left (rw (eq-eqb seen from same, ne-eqb (counterOf from) lastCounter unended) refl)

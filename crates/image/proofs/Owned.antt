@@ -92,11 +92,11 @@ module _ (image : List ℕ) (party : ℕ) (are : AreBytes image) (clear : namedR
       own-recorded image withdrawing are clear (goesOn idle) (rw (withdraw-own-is, none) refl, refl) idle-fits
 
 -- what a swap of a line goes from and to fits its width
-abbrev LineFits : Line → Type 0
+abbrev pub LineFits : Line → Type 0
 LineFits (Look place then) = Unit {0}
 LineFits (Swap place from to then) = WordFits from × (to < 4294967296)
 
-line-fits : (r : Record) → RecordFits r → LineFits (lineOf r)
+pub line-fits : (r : Record) → RecordFits r → LineFits (lineOf r)
 unfolding lineOf
 line-fits r fits =
     whichever LineFits (eqb (r .stage) 1) tt

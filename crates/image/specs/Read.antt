@@ -1,7 +1,7 @@
 -- What the parts of a call read of an image, and what its accesses leave.
 use Prim.Native.Nat.{ℕ}
 use mathlib.Core.Path.{_≡_}
-use mathlib.Core.Bool.{Bool, true, false, not}
+use mathlib.Core.Bool.{Bool, not}
 use mathlib.Core.List.{List}
 use lib.Seq.{sets}
 use lib.Dec.{eqb, leb}
@@ -40,16 +40,6 @@ pub record NamedRead (image : List ℕ) (unknown : Bool) (party : ℕ) (got : Na
   pub max-read : namedRefusal image unknown party ≡ 0 → got .max ≡ maxAt image
   pub at-read : namedRefusal image unknown party ≡ 0 → got .at ≡ recordPlace (maxAt image) party
 
--- only a swap that won writes
-abbrev pub bytesAfter : Swapped → (image : List ℕ) (place word : ℕ) → List ℕ
-bytesAfter Won image place word = sets image (wordPlace place) (bytesOf 8 word)
-bytesAfter (Lost met) image place word = image
-bytesAfter Stuck image place word = image
-
-pub record SwapIn (image : List ℕ) (place from to : ℕ) (answer : Swapped) (left : List ℕ) : Type 0 where
-  pub answered : answer ≡ swapOf (numberAt 8 image (wordPlace place)) from
-  pub bytes-left : left ≡ bytesAfter answer image place (raisedTo from to)
-
 -- the bytes that the record at a place is left with
 abbrev pub recorded : List ℕ → (at : ℕ) → Answered → List ℕ
 recorded image at given = sets image at (recordBytes (given .rec))
@@ -58,12 +48,7 @@ pub record LookMade (image : List ℕ) (at max : ℕ) (r : Record) (place : ℕ)
   pub answered : answer ≡ lookedOf max r then (numberAt 8 image (wordPlace place)) .answer
   pub bytes-left : left ≡ recorded image at (lookedOf max r then (numberAt 8 image (wordPlace place)))
 
-abbrev pub isStuck : Swapped → Bool
-isStuck Won = false
-isStuck (Lost met) = false
-isStuck Stuck = true
-
--- a swap at the counter's end leaves the record too as it was
+-- only a swap that won writes the word; one at the counter's end leaves the record too as it was
 abbrev pub swapRecorded : Swapped → List ℕ → (at place word : ℕ) → Answered → List ℕ
 swapRecorded Won image at place word given = recorded (sets image (wordPlace place) (bytesOf 8 word)) at given
 swapRecorded (Lost met) image at place word given = recorded image at given

@@ -1,26 +1,15 @@
 // A fresh image, laid part by part.
 // Private to the crate, whose calls have checked the header: these ask that the bytes lie inside.
-use crate::gate::sizes_fit;
 use little::put_2;
 use little::put_8;
-use logic::pick_u32;
 ghost use mathlib.Core.Path.{_≡_};
 ghost use Prim.Native.Nat.{_+_, _*_, _≤_};
 ghost use lib.ListN.{length, replicate};
 ghost use lib.Seq.{sets};
-ghost use Rattle.strip.specs.Lay.{freshStrip};
+ghost use Rattle.strip.specs.Lay.{rightsOf};
+ghost use Rattle.image.specs.Format.{wordPlace};
 ghost use Rattle.image.specs.Spelling.{wordBytes};
-ghost use Rattle.image.specs.Calls.{headerBytes, layRefusal};
-
-pub fn lay_refusal(bytes: usize, max: u32, parties: u32, divide: u32) -> u32
-    ensures { λ n. ⌜ n ≡ layRefusal bytes max parties divide ⌝ }
-{
-    pick_u32(
-        !sizes_fit(bytes, max, parties),
-        1,
-        pick_u32(!(divide <= max), 8, 0),
-    )
-}
+ghost use Rattle.image.specs.Calls.{headerBytes};
 
 // The mark, the version, the party count and MAX.
 pub fn lay_header(image: &mut [u8], max: u16, parties: u8)
@@ -35,23 +24,7 @@ pub fn lay_header(image: &mut [u8], max: u16, parties: u8)
     put_2(image, 6, max);
 }
 
-// LN from 0 to the divide, RN past it.
-pub fn lay_words(image: &mut [u8], max: u16, divide: u32)
-    requires { ⌜ (8 + 8 * (max + 2) ≤ length (now image)) × (divide ≤ max) ⌝ }
-    ensures { λ _. ⌜ now (image .exit) ≡ sets (now (image .entry)) 8 (wordBytes (freshStrip max divide)) ⌝ }
-{
-    let words = max as u32 + 2;
-    let mut i: u32 = 0;
-    while i < words {
-        put_8(
-            image,
-            8 + 8 * (i as usize),
-            pick_u32(i <= divide, 0, 1) as u64,
-        );
-        i += 1;
-    }
-}
-
+// LN in every word and idle in every record are zeros.
 pub fn lay_zeros(image: &mut [u8], at: usize, count: usize)
     requires { ⌜ at + count ≤ length (now image) ⌝ }
     ensures { λ _. ⌜ now (image .exit) ≡ sets (now (image .entry)) at (replicate count 0) ⌝ }
@@ -60,5 +33,18 @@ pub fn lay_zeros(image: &mut [u8], at: usize, count: usize)
     while i < count {
         image[at + i] = 0;
         i += 1;
+    }
+}
+
+// RN past the divide. The loop counts the byte place: with the word's number the compiler needs more.
+pub fn lay_rights(image: &mut [u8], max: u16, divide: u32)
+    requires { ⌜ (8 + 8 * (max + 2) ≤ length (now image)) × (divide ≤ max) ⌝ }
+    ensures { λ _. ⌜ now (image .exit) ≡ sets (now (image .entry)) (wordPlace (divide + 1)) (wordBytes (rightsOf max divide)) ⌝ }
+{
+    let end = 8 + 8 * (max as usize + 2);
+    let mut at = 8 + 8 * (divide as usize + 1);
+    while at < end {
+        put_8(image, at, 1);
+        at += 8;
     }
 }

@@ -6,10 +6,10 @@ mod memory;
 mod record;
 
 use crate::fresh::lay_header;
-use crate::fresh::lay_refusal;
-use crate::fresh::lay_words;
+use crate::fresh::lay_rights;
 use crate::fresh::lay_zeros;
 use crate::gate::read_named;
+use crate::gate::sizes_fit;
 use crate::line::make_look;
 use crate::line::make_swap;
 use crate::record::read_record;
@@ -44,13 +44,15 @@ pub struct Named {
 pub fn lay(image: &mut [u8], max: u32, parties: u32, divide: u32) -> Answer
     ensures { λ a. ⌜ ImagePromise (layOf (now (image .entry)) max parties divide) a (now (image .exit)) ⌝ }
 {
-    let number = lay_refusal(image.len(), max, parties, divide);
-    if number != 0 {
-        return Answer::Refused(number);
+    if !sizes_fit(image.len(), max, parties) {
+        return Answer::Refused(1);
+    }
+    if max < divide {
+        return Answer::Refused(8);
     }
     lay_header(image, max as u16, parties as u8);
-    lay_words(image, max as u16, divide);
-    lay_zeros(image, 8 + 8 * (max as usize + 2), 32 * (parties as usize));
+    lay_zeros(image, 8, 8 * (max as usize + 2) + 32 * (parties as usize));
+    lay_rights(image, max as u16, divide);
     Answer::GoesOn
 }
 

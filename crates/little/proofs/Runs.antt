@@ -42,3 +42,18 @@ whole-run vs l e =
     sets-eq vs l 0 (omega arith)
     ∙ ap (λ (r : List ℕ). vs ++ r) (drop-of-length-le l {i = 0 + length vs} (omega arith))
     ∙ append-nil vs
+
+-- A run inside a list, in the place of as many elements.
+behind-a-head : (x : ℕ) (vs l : List ℕ) (at : ℕ) → sets (x ∷ l) (suc at) vs ≡ x ∷ sets l at vs
+behind-a-head x [] l at = refl
+behind-a-head x (v ∷ vs) l at = behind-a-head x vs (set l at v) (suc at)
+
+pub middle-run : (before under after vs : List ℕ) → length under ≡ length vs
+    → sets (before ++ (under ++ after)) (length before) vs ≡ before ++ (vs ++ after)
+middle-run [] [] after [] e = refl
+middle-run [] [] after (v ∷ vs) e = absurd (omega arith)
+middle-run [] (u ∷ under) after [] e = absurd (omega arith)
+middle-run [] (u ∷ under) after (v ∷ vs) e =
+    behind-a-head v vs (under ++ after) 0 ∙ ap (λ (r : List ℕ). v ∷ r) (middle-run [] under after vs (omega arith))
+middle-run (b ∷ before) under after vs e =
+    behind-a-head b vs (before ++ (under ++ after)) (length before) ∙ ap (λ (r : List ℕ). b ∷ r) (middle-run before under after vs e)

@@ -1,11 +1,9 @@
 -- The starred bench marks of document 01, as one table of cases.
 use Prim.Native.Nat.{ℕ}
-use mathlib.Core.Bool.{Bool, true, false, _&&_}
+use mathlib.Core.Bool.{Bool, true, _&&_}
 use mathlib.Core.List.{List, [], _∷_, map}
-use lib.ListN.{length}
 use lib.Dec.{eqb}
 use Rattle.word.specs.Word.{wordOf}
-use Rattle.step.specs.Call.{Call}
 use Rattle.step.specs.Call.Call.{start, step}
 use Rattle.strip.specs.Lay.{freshStrip}
 use Rattle.strip.specs.Measure.{measureOf, measuredLeft}

@@ -1,11 +1,10 @@
 -- What is known of a start that no check refused.
 use Prim.Native.Nat.{ℕ, _≤_}
 use mathlib.Core.Path.{_≡_}
-use mathlib.Core.Bool.{true, false, not}
+use mathlib.Core.Bool.{true, not}
 use lib.Dec.{leb, ltb}
 use borrow.Author.Tests.{leb-true, ltb-false, not-false}
 use Rattle.logic.proofs.Bools.{both, passed}
-use Rattle.logic.specs.Pick.{pick}
 use Rattle.party.specs.Operation.{orderFits}
 use Rattle.party.specs.Valid.{isIdle, validOf}
 use Rattle.party.specs.Calls.{maxFits, startOwn, startRefusal}

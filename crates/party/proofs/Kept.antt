@@ -1,15 +1,15 @@
 -- What start and withdraw keep: a refused call changes nothing, and a valid record stays valid.
-use Prim.Native.Nat.{ℕ, _≤_, _<_}
+use Prim.Native.Nat.{ℕ, _<_}
 use mathlib.Core.Path.{_≡_, refl, sym}
-use mathlib.Core.Bool.{Bool, true, false, _&&_, true≢false}
-use lib.Dec.{eqb, ltb}
-use borrow.Author.Tests.{lt-ltb, eqb-true, eqb-false, eq-eqb, ne-eqb}
+use mathlib.Core.Bool.{Bool, true, false, true≢false}
+use lib.Dec.{eqb}
+use borrow.Author.Tests.{lt-ltb, eqb-true}
 use native.Mathlib.Omega.{arith}
 use Rattle.logic.specs.Pick.{pick}
 use Rattle.logic.proofs.Bools.{whichever}
 use Rattle.party.specs.Operation.{orderFits}
 use Rattle.party.specs.Record.{idle, begun}
-use Rattle.party.specs.Valid.{validOf, operationFits}
+use Rattle.party.specs.Valid.{validOf}
 use Rattle.party.specs.Answer.{goesOn, refused, unless, RefusedKeeps}
 use Rattle.party.specs.Calls.{startRefusal, startOf, withdrawRefusal, withdrawOf}
 use Rattle.party.specs.declared.Record.{Record}

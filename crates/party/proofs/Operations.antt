@@ -1,6 +1,6 @@
 -- What the number of an operation tells.
 use Prim.Native.Nat.{ℕ}
-use mathlib.Core.Path.{_≡_, refl}
+use mathlib.Core.Path.{_≡_}
 use mathlib.Core.Bool.{true, false}
 use mathlib.Core.Logic.{_⊎_, inl, inr}
 use borrow.Author.Tests.{ne-eqb}

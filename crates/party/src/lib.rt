@@ -79,8 +79,16 @@ fn max_fits(max: u32) -> bool
 pub fn start_own(max: u16, r: Record, operation: u8, order: u32) -> u32
     ensures { λ n. ⌜ n ≡ startOwn max r operation order ⌝ }
 {
-    let disordered = pick_u32(!order_fits(operation, order), 7, 0);
-    pick_u32(!is_valid(max, r), 4, pick_u32(r.stage != 0, 5, disordered))
+    if !is_valid(max, r) {
+        return 4;
+    }
+    if r.stage != 0 {
+        return 5;
+    }
+    if !order_fits(operation, order) {
+        return 7;
+    }
+    0
 }
 
 fn start_refusal(max: u32, r: Record, operation: u32, order: u32) -> u32

@@ -1,12 +1,13 @@
 // When a record is valid. These are public for the step and for the other kinds of memory.
+// By branches, not by flags: so small that the compiler lays is_valid into each call on an image.
 use crate::Record;
 use crate::side::in_range;
 use crate::side::is_push;
-use crate::side::order_fits;
 use crate::side::wall_of;
-use logic::pick_bool;
 ghost use mathlib.Core.Path.{_≡_};
-ghost use Rattle.party.specs.Valid.{idleFits, operationFits, placeFits, nothingRead, atWall, swapFits, stageFits, validOf};
+ghost use mathlib.Core.Bool.{not, _&&_};
+ghost use Rattle.party.specs.Operation.{isPush};
+ghost use Rattle.party.specs.Valid.{idleFits, operationFits, placeFits, nothingRead, atWall, stageFits, validOf};
 
 fn idle_fits(r: Record) -> bool
     ensures { λ t. ⌜ t ≡ idleFits r ⌝ }
@@ -17,7 +18,13 @@ fn idle_fits(r: Record) -> bool
 fn operation_fits(r: Record) -> bool
     ensures { λ t. ⌜ t ≡ operationFits r ⌝ }
 {
-    (r.operation < 4) & order_fits(r.operation, r.v)
+    if 3 < r.operation {
+        return false;
+    }
+    if is_push(r.operation) {
+        return 3 <= r.v;
+    }
+    r.v == 0
 }
 
 fn place_fits(max: u16, r: Record) -> bool
@@ -38,22 +45,27 @@ pub fn at_wall(max: u16, r: Record) -> bool
     r.k as u32 == wall_of(max, r.operation)
 }
 
-fn swap_fits(max: u16, r: Record) -> bool
-    ensures { λ t. ⌜ t ≡ swapFits max r ⌝ }
+fn off_wall(max: u16, r: Record) -> bool
+    ensures { λ t. ⌜ t ≡ not (isPush (r .operation) && atWall max r) ⌝ }
 {
-    place_fits(max, r) & !(is_push(r.operation) & at_wall(max, r))
+    !(is_push(r.operation) & at_wall(max, r))
 }
 
 fn stage_fits(max: u16, r: Record) -> bool
     ensures { λ t. ⌜ t ≡ stageFits max r ⌝ }
 {
     let stage = r.stage;
+    if stage == 1 {
+        return nothing_read(r);
+    }
+    if !place_fits(max, r) {
+        return false;
+    }
     match stage {
-        1 => nothing_read(r),
-        2 => place_fits(max, r) & (r.second == 0),
-        3 => place_fits(max, r) & !is_push(r.operation),
-        4 => swap_fits(max, r),
-        5 => swap_fits(max, r),
+        2 => r.second == 0,
+        3 => !is_push(r.operation),
+        4 => off_wall(max, r),
+        5 => off_wall(max, r),
         _ => false,
     }
 }
@@ -61,9 +73,11 @@ fn stage_fits(max: u16, r: Record) -> bool
 pub fn is_valid(max: u16, r: Record) -> bool
     ensures { λ t. ⌜ t ≡ validOf max r ⌝ }
 {
-    pick_bool(
-        r.stage == 0,
-        idle_fits(r),
-        operation_fits(r) & stage_fits(max, r),
-    )
+    if r.stage == 0 {
+        return idle_fits(r);
+    }
+    if !operation_fits(r) {
+        return false;
+    }
+    stage_fits(max, r)
 }

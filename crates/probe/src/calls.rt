@@ -11,7 +11,7 @@ ghost use Prim.Native.Nat.{_≤_};
 ghost use lib.ListN.{length};
 
 // A number that is compared and not kept: what lies beyond 32 bits lies beyond every range, as the largest does.
-fn compared(n: u64) -> u32 {
+pub fn compared(n: u64) -> u32 {
     if n < 4294967295 { n as u32 } else { 4294967295 }
 }
 

@@ -6,11 +6,17 @@
 //   start MAX RECORD OPERATION ORDER  number carried RECORD
 //   withdraw MAX RECORD               number carried RECORD
 //   step HINT RECORD WORDS            number carried RECORD WORDS
+//   image-lay PARTIES MAX DIVIDE HEX  packed HEX
+//   image-start PARTY OPERATION ORDER HEX
+//                                     packed HEX
+//   image-step PARTY HINT HEX         packed HEX
+//   image-withdraw PARTY HEX          packed HEX
 //
 // Numbers are decimal, below 2^64 (ORDER below 2^32), with blanks between. A RECORD is six numbers: operation, stage, k, v, first and
-// second, which fit its fields. WORDS are the words of a strip, up to 4,097, in a line of up to 90,112 bytes. Any other line is answered
-// `?`.
+// second, which fit its fields. WORDS are the words of a strip, up to 4,097. HEX is the bytes of an image, up to 33,792, two digits each,
+// `-` for none; packed is number + 2^32 × carried order. A line has up to 90,112 bytes. Any other line is answered `?`.
 mod calls;
+mod images;
 mod say;
 mod text;
 
@@ -23,10 +29,14 @@ use crate::calls::step_on;
 use crate::calls::withdraw;
 use crate::say::end_line;
 use crate::say::unknown;
+use crate::text::back;
+use crate::text::bytes_of;
 use crate::text::numbers;
 use crate::text::read_line;
 use crate::text::same;
 use crate::text::skip;
+ghost use Prim.Native.Nat.{_≤_};
+ghost use lib.ListN.{length};
 
 fn call(name: &[u8], given: &mut [u64]) -> bool {
     if same(name, b"lay") {
@@ -57,10 +67,61 @@ fn find(side: &[u8], given: &[u64]) -> bool {
     false
 }
 
+// Whether a command's last field is the bytes of an image.
+fn has_bytes(name: &[u8]) -> bool {
+    if name.len() < 6 {
+        return false;
+    }
+    same(&name[0..6], b"image-")
+}
+
+fn call_on_bytes(name: &[u8], given: &[u64], bytes: &mut [u8]) -> bool {
+    if same(name, b"image-lay") {
+        return images::lay(given, bytes);
+    }
+    if same(name, b"image-start") {
+        return images::start(given, bytes);
+    }
+    if same(name, b"image-step") {
+        return images::step(given, bytes);
+    }
+    if same(name, b"image-withdraw") {
+        return images::withdraw(given, bytes);
+    }
+    false
+}
+
+// Answers a line whose command stands between two places, and whose last field is the bytes of an image.
+fn answer_on_bytes(
+    line: &[u8],
+    name: usize,
+    past: usize,
+    room: &mut [u64],
+    bytes: &mut [u8],
+) -> bool
+    requires { ⌜ name ≤ past ⌝ }
+    requires { ⌜ past ≤ length (now line) ⌝ }
+{
+    let end = back(line, past, line.len(), true);
+    let last = back(line, past, end, false);
+    let n = numbers(&line[0..last], past, room);
+    if room.len() < n {
+        return false;
+    }
+    let m = bytes_of(&line[last..end], bytes);
+    if bytes.len() < m {
+        return false;
+    }
+    call_on_bytes(&line[name..past], &room[0..n], &mut bytes[0..m])
+}
+
 // Answers a line, or says that it does not parse.
-fn answer(line: &[u8], room: &mut [u64]) -> bool {
+fn answer(line: &[u8], room: &mut [u64], bytes: &mut [u8]) -> bool {
     let name = skip(line, 0, true);
     let past = skip(line, name, false);
+    if has_bytes(&line[name..past]) {
+        return answer_on_bytes(line, name, past, room, bytes);
+    }
     if same(&line[name..past], b"find") {
         let side = skip(line, past, true);
         let after = skip(line, side, false);
@@ -78,31 +139,33 @@ fn answer(line: &[u8], room: &mut [u64]) -> bool {
 }
 
 // Answers the line of so many bytes, which may be more than are kept.
-fn answer_first(line: &[u8], n: usize, room: &mut [u64]) -> bool {
+fn answer_first(line: &[u8], n: usize, room: &mut [u64], bytes: &mut [u8]) -> bool {
     if line.len() < n {
         return false;
     }
-    answer(&line[0..n], room)
+    answer(&line[0..n], room, bytes)
 }
 
 // One line of the input. Answers whether there was one.
-fn turn_in(line: &mut [u8], room: &mut [u64]) -> bool {
+fn turn_in(line: &mut [u8], room: &mut [u64], bytes: &mut [u8]) -> bool {
     let n = read_line(line);
     if n == 0 {
         return false;
     }
-    if !answer_first(line, n, room) {
+    if !answer_first(line, n, room, bytes) {
         unknown();
     }
     end_line();
     true
 }
 
-// The longest line: a command, seven numbers and 4,097 words, each a blank and up to 20 digits.
+// The longest line: a command, seven numbers and 4,097 words, each a blank and up to 20 digits. The largest image has 33,288 bytes; some
+// more are kept, so that one that is too long can be shown.
 fn turn() -> bool {
     let mut line = [0u8; 90112];
     let mut room = [0u64; 4104];
-    turn_in(&mut line, &mut room)
+    let mut bytes = [0u8; 33792];
+    turn_in(&mut line, &mut room, &mut bytes)
 }
 
 // The loop counts down from a number that no input uses up, for a proved loop has to end.

@@ -131,3 +131,72 @@ pub fn numbers(line: &[u8], from: usize, room: &mut [u64]) -> usize
     }
     n
 }
+
+// The same from a place back to another: the place after the first met that is not blank, or where asked that is.
+pub fn back(line: &[u8], to: usize, from: usize, blank: bool) -> usize
+    requires { ⌜ to ≤ from ⌝ }
+    requires { ⌜ from ≤ length (now line) ⌝ }
+    ensures { λ r. ⌜ to ≤ r ⌝ }
+    ensures { λ r. ⌜ r ≤ from ⌝ }
+{
+    let mut i = from;
+    while to < i {
+        if is_blank(line[i - 1]) != blank {
+            return i;
+        }
+        i -= 1;
+    }
+    i
+}
+
+// Which of the sixteen digits a letter is, 16 where it is none.
+fn digit_of(b: u8) -> u8 {
+    if b < 48 {
+        return 16;
+    }
+    if b < 58 {
+        return b - 48;
+    }
+    if b < 65 {
+        return 16;
+    }
+    if b < 71 {
+        return b - 55;
+    }
+    if b < 97 {
+        return 16;
+    }
+    if b < 103 {
+        return b - 87;
+    }
+    16
+}
+
+// The bytes that a field spells, two digits each, `-` for none. Answers how many: more than there is room for where it spells none, or
+// they are too many.
+pub fn bytes_of(field: &[u8], room: &mut [u8]) -> usize {
+    if same(field, b"-") {
+        return 0;
+    }
+    let n = field.len() / 2;
+    if (n == 0) | (field.len() % 2 != 0) {
+        return room.len() + 1;
+    }
+    if room.len() < n {
+        return room.len() + 1;
+    }
+    let mut i = 0;
+    while i < n {
+        let high = digit_of(field[2 * i]);
+        let low = digit_of(field[2 * i + 1]);
+        if 15 < high {
+            return room.len() + 1;
+        }
+        if 15 < low {
+            return room.len() + 1;
+        }
+        room[i] = high * 16 + low;
+        i += 1;
+    }
+    n
+}

@@ -1,16 +1,16 @@
 -- What a call answers is a number of document 01's table, of two digits at most, and no call alters the strip's length.
 use Prim.Native.Nat.{ℕ, _≤_}
-use mathlib.Core.Path.{_≡_, refl, sym, _∙_, ap, subst}
-use mathlib.Core.Bool.{Bool, true, false, not, _&&_}
+use mathlib.Core.Path.{_≡_, refl}
+use mathlib.Core.Bool.{not}
 use mathlib.Core.List.{List}
-use lib.ListN.{length, set, length-set}
+use lib.ListN.{length, length-set}
 use lib.Dec.{eqb, leb, ltb}
 use borrow.Author.Tests.{leb-true}
 use native.Mathlib.Omega.{arith}
 use Rattle.logic.proofs.Bools.{both, whichever}
 use Rattle.party.specs.Operation.{orderFits}
 use Rattle.party.specs.Valid.{validOf, isIdle}
-use Rattle.party.specs.Answer.{isRefusal, numberOf}
+use Rattle.party.specs.Answer.{numberOf}
 use Rattle.party.specs.Calls.{maxFits, startOwn, startRefusal, startOf, withdrawOwn, withdrawRefusal, withdrawOf}
 use Rattle.party.specs.declared.Record.{Record}
 use Rattle.party.specs.declared.Answered.{Answered}

@@ -1,7 +1,7 @@
 -- One entry on the run's two arrays of 16 is that entry on the state of base 3's run.
-use Prim.Native.Nat.{ℕ, _+_, _%_, _≤_, _<_}
+use Prim.Native.Nat.{ℕ, _≤_, _<_}
 use mathlib.Core.Path.{_≡_, refl, sym, _∙_, ap, subst}
-use mathlib.Core.Bool.{Bool, true, false, not, _&&_, _||_}
+use mathlib.Core.Bool.{Bool, true, false, not, _&&_}
 use mathlib.Core.List.{List}
 use lib.ListN.{length, getD, set, take}
 use lib.Seq.{length-take-le, getD-take, take-set-lt, set-getD}
@@ -11,13 +11,11 @@ use native.Mathlib.Omega.{arith}
 use Rattle.logic.specs.Pick.{pick}
 use Rattle.logic.proofs.Bools.{passed, whichever}
 use Rattle.party.specs.Record.{idle}
-use Rattle.party.specs.Answer.{numberOf, carriedOf}
 use Rattle.party.specs.declared.Record.{Record}
-use Rattle.party.specs.declared.Answered.{Answered}
 use Rattle.step.specs.Step.{stripFits}
-use Rattle.step.specs.Call.{Call, Left, partyOf, tableFits, isUnknown, gate, ownOf, ownLeaves, through, turnedAway, callOf}
-use Rattle.history.specs.Run.{State, Line, goesOn, isStep, looked, effectOf, lineOf, leaves}
-use Rattle.schedule.specs.Turn.{turnOf, turnLeaves, Follows, TurnPromise, lineIn, slotOf}
+use Rattle.step.specs.Call.{Call, partyOf, tableFits, isUnknown, gate, through, turnedAway, callOf}
+use Rattle.history.specs.Run.{State, lineOf, leaves}
+use Rattle.schedule.specs.Turn.{TurnPromise, lineIn, slotOf}
 use Rattle.schedule.specs.declared.Turn.{Turn}
 use Rattle.schedule.proofs.Turns.{turned-away, let-through}
 

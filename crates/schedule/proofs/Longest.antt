@@ -1,6 +1,6 @@
 -- No listing is longer than 147,489 bytes: a header of 27, 2,048 lines of 28, and 6 and 4,096 times 22 for the cells.
 use Prim.Native.Nat.{ℕ, zero, suc, _+_, _*_, _/_, _%_, _≤_, _<_}
-use mathlib.Core.Path.{_≡_, refl, sym, _∙_, ap}
+use mathlib.Core.Path.{_≡_, refl, _∙_}
 use mathlib.Core.Bool.{Bool, true, false, _||_}
 use mathlib.Core.List.{List, [], _∷_, _++_}
 use lib.ListN.{length, getD, set, length-append, List·getD-eq-default}
@@ -14,12 +14,12 @@ use Rattle.logic.proofs.Lists.{every-set}
 use Rattle.word.specs.Word.{valueOf, counterOf}
 use Rattle.party.specs.Answer.{numberOf}
 use Rattle.step.specs.Call.{Call, partyOf, callOf}
-use Rattle.entry.specs.Entry.{actAt, partyAt, operationAt, zeroAt, wordAt, isKnown, unknown, callAt}
+use Rattle.entry.specs.Entry.{actAt, partyAt, operationAt, zeroAt, wordAt, isKnown, callAt}
 use Rattle.history.specs.Run.{State, Line, looked, lineOf, leaves, linesFrom, endFrom}
 use Rattle.history.specs.Finished.{isResult}
 use Rattle.schedule.specs.File.{callsFrom}
 use Rattle.schedule.specs.Text.{digitsOf, decimal}
-use Rattle.schedule.specs.Listing.{spaced, effectText, lineText, linesText, runText, headerText, wordText, wordsText, cellsText}
+use Rattle.schedule.specs.Listing.{effectText, lineText, linesText, runText, headerText, wordsText}
 use Rattle.schedule.proofs.Bounds.{call-bounded}
 
 -- ten to one more than k

@@ -1,21 +1,19 @@
 -- List refused, and list let through.
-use Prim.Native.Nat.{ℕ, _+_, _≤_, _<_}
-use mathlib.Core.Path.{_≡_, refl, sym, _∙_, ap}
-use mathlib.Core.Bool.{Bool, true, false, not, _&&_}
+use Prim.Native.Nat.{ℕ, _+_, _≤_}
+use mathlib.Core.Path.{_≡_, sym, _∙_, ap}
+use mathlib.Core.Bool.{not, _&&_}
 use mathlib.Core.List.{List, _++_}
 use lib.ListN.{length, drop}
-use lib.Seq.{sets, sets-eq}
+use lib.Seq.{sets-eq}
 use lib.Dec.{eqb, leb}
 use borrow.Author.Tests.{eqb-true, leb-true, eq-eqb, ne-eqb, not-false}
 use native.Mathlib.Omega.{arith}
 use native.Mathlib.Nat.{zero-add}
-use Rattle.logic.specs.Pick.{pick}
 use Rattle.logic.proofs.Bools.{both, passed}
 use Rattle.schedule.specs.File.{maxAt, fileRefusal}
 use Rattle.schedule.specs.Listing.{listingOf}
 use Rattle.schedule.specs.Writing.{Puts}
 use Rattle.schedule.specs.List.{longest, listRefusal, wordsAtEnd, ListPromise}
-use Rattle.schedule.specs.declared.Listed.{Listed}
 
 pub record Clear (file : List ℕ) (words room : ℕ) : Type 0 where
   pub whole : words ≡ 4096

@@ -2,7 +2,7 @@
 use Prim.Native.Nat.{ℕ, zero, suc, _+_, _*_, _-_, _≤_, _<_}
 use mathlib.Core.Path.{_≡_, refl, sym, _∙_, ap}
 use mathlib.Core.List.{List, [], _∷_, _++_}
-use lib.ListN.{length, getD, set, take, replicate, length-set, length-replicate}
+use lib.ListN.{length, getD, set, take, replicate}
 use native.Mathlib.Omega.{arith}
 use native.Mathlib.Numerals.{add-one}
 use Rattle.party.specs.Record.{idle}
@@ -13,7 +13,7 @@ use Rattle.history.specs.Run.{State, begin, lineOf, leaves, linesFrom, endFrom}
 use Rattle.schedule.specs.File.{callsFrom}
 use Rattle.schedule.specs.Turn.{TurnPromise, lineIn, slotOf}
 use Rattle.schedule.specs.Listing.{lineText, linesText, runText}
-use Rattle.schedule.specs.Writing.{Room, Puts}
+use Rattle.schedule.specs.Writing.{Puts}
 use Rattle.schedule.specs.declared.Turn.{Turn}
 use Rattle.schedule.proofs.Puts.{Rest, rest-begins, rest-goes-on, rest-ends, puts-nothing}
 use Rattle.schedule.proofs.Entering.{stateOf, enters}

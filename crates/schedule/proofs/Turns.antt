@@ -1,12 +1,11 @@
 -- One entry: refused at the gate, or what its party's own record gets.
 use Prim.Native.Nat.{ℕ}
-use mathlib.Core.Path.{_≡_, refl, sym, _∙_, ap, ap₂}
-use mathlib.Core.Bool.{Bool, true, false, not, _&&_, _||_}
+use mathlib.Core.Path.{_≡_, refl, _∙_, ap, ap₂}
+use mathlib.Core.Bool.{Bool, true, not, _&&_, _||_}
 use mathlib.Core.List.{List}
 use lib.ListN.{length}
-use lib.Dec.{eqb, leb}
-use borrow.Author.Tests.{eq-eqb, ne-eqb, not-false, leb-false}
-use native.Mathlib.Omega.{arith}
+use lib.Dec.{eqb}
+use borrow.Author.Tests.{eq-eqb, ne-eqb, not-false}
 use Rattle.logic.specs.Pick.{pick}
 use Rattle.logic.proofs.Bools.{both, passed}
 use Rattle.party.specs.Answer.{refused, Gives}
@@ -15,7 +14,7 @@ use Rattle.history.specs.Run.{goesOn}
 use Rattle.schedule.specs.declared.Turn.{Turn}
 use Rattle.party.specs.declared.Record.{Record}
 use Rattle.step.specs.Step.{stripFits}
-use Rattle.step.specs.Call.{Call, partyOf, tableFits, isUnknown, gate, ownOf, ownLeaves}
+use Rattle.step.specs.Call.{Call, tableFits, gate, ownOf, ownLeaves}
 use Rattle.schedule.specs.Turn.{turnOf, turnLeaves, Follows}
 
 module _ (strip : List ℕ) (parties : ℕ) (r : Record) (call : Call) where

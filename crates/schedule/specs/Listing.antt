@@ -1,7 +1,6 @@
 -- The listing of a run, as document 01 prints it.
 use Prim.Native.Nat.{ℕ, suc}
 use mathlib.Core.List.{List, [], _∷_, _++_}
-use lib.Dec.{eqb}
 use Rattle.logic.specs.Pick.{pick}
 use Rattle.word.specs.Word.{valueOf, counterOf}
 use Rattle.step.specs.Call.{Call, partyOf}

@@ -6,7 +6,7 @@ use mathlib.Core.List.{List}
 use lib.ListN.{length}
 use lib.Dec.{eqb}
 use Rattle.logic.specs.Pick.{pick}
-use Rattle.party.specs.Answer.{numberOf, carriedOf, unless, Gives}
+use Rattle.party.specs.Answer.{numberOf, carriedOf, unless}
 use Rattle.party.specs.declared.Record.{Record}
 use Rattle.party.specs.declared.Answered.{Answered}
 use Rattle.step.specs.Call.{Call, partyOf, gate, ownOf, ownLeaves}

@@ -1,12 +1,12 @@
 -- What a call on a strip and a table of records keeps: a refused one changes nothing, and valid records stay valid.
-use Prim.Native.Nat.{ℕ, _<_, _≤_}
-use mathlib.Core.Path.{_≡_, refl, sym, _∙_, ap}
-use mathlib.Core.Bool.{Bool, true, false, not, _&&_, true≢false}
+use Prim.Native.Nat.{ℕ}
+use mathlib.Core.Path.{_≡_, refl, _∙_, ap}
+use mathlib.Core.Bool.{Bool, true, false, not, _&&_}
 use mathlib.Core.List.{List}
-use lib.ListN.{length, getD, set}
+use lib.ListN.{length, set}
 use lib.Seq.{set-getD}
 use lib.Dec.{eqb, leb}
-use borrow.Author.Tests.{eqb-true, eqb-false, leb-false}
+use borrow.Author.Tests.{eqb-true, leb-false}
 use Rattle.logic.specs.Pick.{pick}
 use Rattle.logic.specs.Every.{Every}
 use Rattle.logic.proofs.Bools.{passed}

@@ -1,13 +1,12 @@
 -- What is known of a step that no check refused.
-use Prim.Native.Nat.{ℕ, _≤_, _<_, _+_, _-_}
-use mathlib.Core.Path.{_≡_, refl, sym, _∙_, subst}
-use mathlib.Core.Bool.{Bool, true, false, not, _&&_, _||_, true≢false}
+use Prim.Native.Nat.{ℕ, _≤_, _<_}
+use mathlib.Core.Path.{_≡_}
+use mathlib.Core.Bool.{Bool, true, false, not}
 use lib.Dec.{eqb, leb}
-use borrow.Author.Tests.{leb-true, not-false, eqb-false, eq-eqb}
+use borrow.Author.Tests.{leb-true, not-false, eqb-false}
 use native.Mathlib.Omega.{arith}
-use Rattle.logic.specs.Pick.{pick}
 use Rattle.logic.proofs.Bools.{both, passed, whichever}
-use Rattle.party.specs.Operation.{isPush, inRange, neighbour}
+use Rattle.party.specs.Operation.{isPush, neighbour}
 use Rattle.party.specs.Valid.{isIdle, validOf, placeFits}
 use Rattle.party.specs.declared.Record.{Record}
 use Rattle.party.proofs.Stages.{ValidAt, valid-at}

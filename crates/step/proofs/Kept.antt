@@ -1,22 +1,21 @@
 -- What a step keeps: a refused one changes nothing, a valid record stays valid, and its promise leaves nothing open.
 use Prim.Native.Nat.{ℕ}
-use mathlib.Core.Path.{_≡_, refl, sym, _∙_, ap, subst}
-use mathlib.Core.Bool.{Bool, true, false, not, _&&_, true≢false}
+use mathlib.Core.Path.{_≡_, refl, sym, _∙_, ap}
+use mathlib.Core.Bool.{true, false, not, _&&_, true≢false}
 use mathlib.Core.List.{List}
 use lib.ListN.{length}
 use lib.Dec.{eqb}
 use borrow.Author.Tests.{not-true, eqb-true}
 use Rattle.logic.proofs.Bools.{both}
 use Rattle.party.specs.Operation.{isPush}
-use Rattle.party.specs.Record.{again, atStage, withPlace, withFirst, withSecond}
-use Rattle.party.specs.Valid.{validOf, placeFits, swapFits, operationFits, atWall}
-use Rattle.party.specs.Answer.{isRefusal, numberOf, carriedOf, goesOn, ends, refused, Gives, RefusedKeeps}
+use Rattle.party.specs.Record.{again}
+use Rattle.party.specs.Valid.{validOf, placeFits, operationFits}
+use Rattle.party.specs.Answer.{isRefusal, numberOf, carriedOf, refused, Gives, RefusedKeeps}
 use Rattle.party.specs.declared.Record.{Record}
 use Rattle.party.specs.declared.Answered.{Answered}
 use Rattle.party.proofs.Gives.{two-that-keep-it-are-equal}
 use Rattle.party.proofs.Kept.{idle-is-valid}
 use Rattle.party.proofs.Stages.{ValidAt, at-valid, stage-1-fits, stage-2-fits, stage-3-fits, stage-4-fits, busy-fits}
-use Rattle.step.specs.Follow.{popAtFar, pushAtWall}
 use Rattle.step.specs.Step.{maxOf, stepOf, stepLeaves, StepPromise}
 use Rattle.step.proofs.Cleared.{Steppable}
 use Rattle.step.proofs.Went.{Gone, GoneOn, Went, went}

@@ -6,14 +6,14 @@ use mathlib.Core.Bool.{Bool, true, false, not}
 use mathlib.Core.List.{List}
 use lib.ListN.{length, getD, set}
 use lib.Dec.{eqb}
-use borrow.Author.Tests.{eqb-true, eqb-false, ne-eqb}
+use borrow.Author.Tests.{eqb-true, eqb-false}
 use native.Mathlib.Omega.{arith}
 use Rattle.logic.proofs.Bools.{whichever}
 use Rattle.word.specs.Word.{valueOf, counterOf, lastCounter, raisedTo}
 use Rattle.word.specs.Swap.{swapOf, wordsAfter}
 use Rattle.word.specs.declared.Swapped.{Swapped}
 use Rattle.word.proofs.Laws.{SwapGoes, swap-goes}
-use Rattle.party.specs.Operation.{isPush, neighbour}
+use Rattle.party.specs.Operation.{isPush}
 use Rattle.party.specs.Record.{again, atStage, withPlace, withFirst, withSecond}
 use Rattle.party.specs.Valid.{isIdle, validOf}
 use Rattle.party.specs.Answer.{isRefusal, goesOn, ends, refused}
@@ -23,7 +23,7 @@ use Rattle.party.specs.declared.Answer.the-variants.{Pushed, Popped, Full, Empt
 use Rattle.party.proofs.Stages.{ValidAt, valid-at}
 use Rattle.step.specs.Table.{near, own, atPlace, atNear, lineOf}
 use Rattle.step.specs.Follow.{misled, pushAtWall, popAtFar, judgeOf, recheckOf, wonOf, swappedOf}
-use Rattle.step.specs.Step.{stripFits, maxOf, hintFits, stepOwn, stepRefusal, aimed, stepOf, stepLeaves}
+use Rattle.step.specs.Step.{stripFits, maxOf, hintFits, stepOwn, stepRefusal, stepOf, stepLeaves}
 use Rattle.step.specs.declared.AfterSwap.{AfterSwap}
 use Rattle.step.specs.declared.Line.the-variants.{Swap}
 use Rattle.step.proofs.Cleared.{Steppable, steppable}

@@ -7,9 +7,7 @@ use Rattle.logic.specs.Pick.{pick}
 use Rattle.word.specs.Word.{valueOf}
 use Rattle.party.specs.Operation.{isPush, neighbour, ownNull, farNull}
 use Rattle.party.specs.declared.Record.{Record}
-use Rattle.step.specs.declared.AfterLook.{AfterLook}
 use Rattle.step.specs.declared.AfterLook.the-variants.{Remember, Judge, Recheck}
-use Rattle.step.specs.declared.AfterSwap.{AfterSwap}
 use Rattle.step.specs.declared.AfterSwap.the-variants.{Onward, Push, Pop}
 use Rattle.step.specs.declared.Line.{Line}
 use Rattle.step.specs.declared.Line.the-variants.{Look, Swap}

@@ -5,7 +5,6 @@ pub mod table;
 use crate::follow::looked;
 use crate::follow::swapped;
 use crate::table::line;
-use logic::pick_u32;
 use party::Answered;
 use party::Record;
 use party::make::refused_with;
@@ -55,8 +54,16 @@ fn hint_fits(max: u16, r: Record, hint: u32) -> bool
 pub fn step_own(max: u16, r: Record, hint: u32) -> u32
     ensures { λ n. ⌜ n ≡ stepOwn max r hint ⌝ }
 {
-    let aimless = pick_u32(!hint_fits(max, r, hint), 8, 0);
-    pick_u32(!is_valid(max, r), 4, pick_u32(r.stage == 0, 6, aimless))
+    if !is_valid(max, r) {
+        return 4;
+    }
+    if r.stage == 0 {
+        return 6;
+    }
+    if !hint_fits(max, r, hint) {
+        return 8;
+    }
+    0
 }
 
 fn step_refusal(words: usize, r: Record, hint: u32) -> u32

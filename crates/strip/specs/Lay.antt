@@ -11,8 +11,14 @@ use Rattle.step.specs.Step.{stripFits, maxOf}
 use Rattle.strip.specs.declared.Laid.{Laid}
 use Rattle.strip.specs.declared.Laid.the-variants.{Fresh, NotLaid}
 
+abbrev pub leftsOf : (divide : ℕ) → List ℕ
+leftsOf divide = replicate (divide + 1) (wordOf 0 LN)
+
+abbrev pub rightsOf : (max divide : ℕ) → List ℕ
+rightsOf max divide = replicate (max - divide + 1) (wordOf 0 RN)
+
 abbrev pub freshStrip : (max divide : ℕ) → List ℕ
-freshStrip max divide = replicate (divide + 1) (wordOf 0 LN) ++ replicate (max - divide + 1) (wordOf 0 RN)
+freshStrip max divide = leftsOf divide ++ rightsOf max divide
 
 -- the divide is from 0 to MAX
 unfoldable pub layRefusal : (words divide : ℕ) → ℕ

@@ -8,7 +8,6 @@ use native.Mathlib.Omega.{arith}
 use Rattle.logic.specs.Pick.{pick}
 use Rattle.word.specs.Word.{counterOf, lastCounter}
 use Rattle.word.specs.Swap.{swapOf}
-use Rattle.word.specs.declared.Swapped.{Swapped}
 use Rattle.word.specs.declared.Swapped.the-variants.{Won, Lost, Stuck}
 
 -- A swap that won met the word it expected, and that word's counter was not at its end.

@@ -73,8 +73,10 @@ fn left_to_others() -> String {
     left.map(|(fault, name)| {
         let door = if Door::Schedules.shows(*fault) {
             "schedules"
-        } else {
+        } else if Door::Strips.shows(*fault) {
             "strips"
+        } else {
+            "whole"
         };
         format!("wrong twin {:24} cannot show here: see {}\n", name, door)
     })

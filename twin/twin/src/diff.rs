@@ -5,7 +5,7 @@
 //! some input. A difference keeps the input in a directory.
 
 use crate::fault::{Fault, Twin, FAULTS};
-use crate::generate::probe::{image_line, strip_line};
+use crate::generate::probe::{image_line, strip_line, whole_line};
 use crate::generate::schedule::{file, KINDS};
 use crate::listing;
 use crate::random::Random;
@@ -20,8 +20,10 @@ pub enum Door {
     Schedules,
     /// The probe's lines of strips and records.
     Strips,
-    /// The probe's lines of images.
+    /// The probe's lines of calls on images.
     Images,
+    /// The probe's lines that read and write whole images.
+    Whole,
 }
 
 impl Door {
@@ -30,6 +32,7 @@ impl Door {
             "schedules" => Some(Door::Schedules),
             "strips" => Some(Door::Strips),
             "images" => Some(Door::Images),
+            "whole" => Some(Door::Whole),
             _ => None,
         }
     }
@@ -40,6 +43,7 @@ impl Door {
             Door::Schedules => &[0, 1, 2, 3, 5, 6, 7, 8, 11, 16, 17, 18, 19],
             Door::Strips => &[0, 1, 4, 5, 6, 7, 8, 9, 10, 11, 12, 16, 17, 18, 19],
             Door::Images => &[0, 1, 2, 3, 4, 5, 6, 7, 8, 9, 11, 16, 17, 18, 19],
+            Door::Whole => &[0, 1, 2, 4],
         }
     }
 
@@ -50,11 +54,13 @@ impl Door {
             EmptyAtSecondLook | FullAtAnswer | RefusedEntryCounted | LongFileCut => {
                 self == Door::Schedules
             }
-            LostSwapNine | DirtyIdleIsSix => self != Door::Schedules,
-            ElevenAfterThree | VersionNotCompared => self != Door::Strips,
-            SpareBytesUnchecked => self == Door::Images,
+            LostSwapNine | DirtyIdleIsSix => self == Door::Strips || self == Door::Images,
+            ElevenAfterThree => self == Door::Schedules || self == Door::Images,
+            VersionNotCompared => self != Door::Strips,
+            SpareBytesUnchecked => self == Door::Images || self == Door::Whole,
             FindFromFarEnd | ReservedIsOrder => self == Door::Strips,
-            _ => true,
+            FirstRecordChecked | StripBeforeCheck | SpareBytesLeft => self == Door::Whole,
+            _ => self != Door::Whole,
         }
     }
 }
@@ -182,10 +188,10 @@ impl Program<'_> {
 
     /// `count` lines for a probe, in one run of the program.
     pub fn lines(&self, door: Door, seed: u64, count: usize) -> Report {
-        let make = if door == Door::Images {
-            image_line
-        } else {
-            strip_line
+        let make = match door {
+            Door::Images => image_line,
+            Door::Whole => whole_line,
+            _ => strip_line,
         };
         let mut report = Report::new(door);
         let mut random = Random::new(seed);

@@ -43,9 +43,15 @@ pub enum Fault {
     FindFromFarEnd,
     /// Measure counts value 2 as an order.
     ReservedIsOrder,
+    /// Reading and writing a whole image check the first record alone.
+    FirstRecordChecked,
+    /// Reading a whole image fills the strip before the records are checked.
+    StripBeforeCheck,
+    /// Writing a whole image leaves the last party's last eight bytes as they were.
+    SpareBytesLeft,
 }
 
-pub const FAULTS: [(Fault, &str); 20] = [
+pub const FAULTS: [(Fault, &str); 23] = [
     (Fault::EmptyAtSecondLook, "empty-at-second-look"),
     (Fault::FullAtAnswer, "full-at-answer"),
     (Fault::ValuesCompared, "values-compared"),
@@ -66,6 +72,9 @@ pub const FAULTS: [(Fault, &str); 20] = [
     (Fault::LongFileCut, "long-file-cut"),
     (Fault::FindFromFarEnd, "find-from-far-end"),
     (Fault::ReservedIsOrder, "reserved-is-order"),
+    (Fault::FirstRecordChecked, "first-record-checked"),
+    (Fault::StripBeforeCheck, "strip-before-check"),
+    (Fault::SpareBytesLeft, "spare-bytes-left"),
 ];
 
 impl Fault {

@@ -57,14 +57,16 @@ impl Twin {
         if get(image, at + 24, 8) != 0 && !self.has(Fault::SpareBytesUnchecked) {
             return Err(BAD_RECORD);
         }
-        Ok(Record {
-            operation: get(image, at, 1) as u8,
-            stage: get(image, at + 1, 1) as u8,
-            k: get(image, at + 2, 2) as u16,
-            v: get(image, at + 4, 4) as u32,
-            first: get(image, at + 8, 8),
-            second: get(image, at + 16, 8),
-        })
+        Ok(spelt_record(image, at))
+    }
+
+    /// How many records of a whole image are checked.
+    fn checked(self, parties: usize) -> usize {
+        if self.has(Fault::FirstRecordChecked) {
+            1
+        } else {
+            parties
+        }
     }
 
     /// Everything up to the named record, in the table's order.
@@ -148,15 +150,19 @@ impl Twin {
         if header.max + 2 != strip.len() || header.parties != table.len() {
             return Answer::of(BAD_LENGTH);
         }
-        let mut records = Vec::new();
-        for party in 0..header.parties {
+        if self.has(Fault::StripBeforeCheck) {
+            strip.copy_from_slice(&get_strip(image, strip.len()));
+        }
+        for party in 0..self.checked(header.parties) {
             match self.get_record(image, record_at(header, party)) {
-                Ok(record) if record.is_valid(header.max) => records.push(record),
+                Ok(record) if record.is_valid(header.max) => (),
                 _ => return Answer::of(BAD_RECORD),
             }
         }
         strip.copy_from_slice(&get_strip(image, strip.len()));
-        table.copy_from_slice(&records);
+        for (party, record) in table.iter_mut().enumerate() {
+            *record = spelt_record(image, record_at(header, party));
+        }
         Answer::of(GOES_ON)
     }
 
@@ -169,11 +175,28 @@ impl Twin {
         if image.len() != length(table.len(), max) {
             return Answer::of(BAD_LENGTH);
         }
-        if table.iter().any(|record| !record.is_valid(max)) {
+        let checked = &table[..self.checked(table.len())];
+        if checked.iter().any(|record| !record.is_valid(max)) {
             return Answer::of(BAD_RECORD);
         }
+        let before = image.to_vec();
         put_all(image, strip, table);
+        if self.has(Fault::SpareBytesLeft) {
+            let last = image.len() - 8;
+            image[last..].copy_from_slice(&before[last..]);
+        }
         Answer::of(GOES_ON)
+    }
+}
+
+fn spelt_record(image: &[u8], at: usize) -> Record {
+    Record {
+        operation: get(image, at, 1) as u8,
+        stage: get(image, at + 1, 1) as u8,
+        k: get(image, at + 2, 2) as u16,
+        v: get(image, at + 4, 4) as u32,
+        first: get(image, at + 8, 8),
+        second: get(image, at + 16, 8),
     }
 }
 

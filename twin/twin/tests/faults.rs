@@ -2,9 +2,10 @@
 #![forbid(unsafe_code)]
 #![deny(warnings)]
 
+use twin::diff::Door;
 use twin::fault::FAULTS;
 use twin::generate::image::{any, call};
-use twin::generate::probe::strip_line;
+use twin::generate::probe::{strip_line, whole_line};
 use twin::generate::schedule::{file, KINDS};
 use twin::random::{seed_or, Random};
 use twin::{Fault, Twin};
@@ -46,8 +47,13 @@ fn show_all(seed: u64) -> Vec<Shown> {
             shown[i].calls += usize::from(play(Twin::wrong(*fault)) != right);
         }
     }
-    for _ in 0..LINES {
-        let line = strip_line(&mut random);
+    for number in 0..2 * LINES {
+        let make = if number < LINES {
+            strip_line
+        } else {
+            whole_line
+        };
+        let line = make(&mut random);
         let right = Twin::faithful().probe(&line);
         for (i, (fault, _)) in FAULTS.iter().enumerate() {
             shown[i].lines += usize::from(Twin::wrong(*fault).probe(&line) != right);
@@ -64,7 +70,7 @@ fn each_wrong_twin_shows() {
         seed,
         4 * FILES,
         CALLS,
-        LINES
+        2 * LINES
     );
     let shown = show_all(seed);
     for ((fault, name), shown) in FAULTS.iter().zip(&shown) {
@@ -72,11 +78,15 @@ fn each_wrong_twin_shows() {
             "{:24} {:5} files {:5} calls {:5} lines",
             name, shown.files, shown.calls, shown.lines
         );
-        let only_at_the_probe = matches!(fault, Fault::FindFromFarEnd | Fault::ReservedIsOrder);
-        if only_at_the_probe {
+        let at_the_probe = Door::Strips.shows(*fault) || Door::Whole.shows(*fault);
+        if at_the_probe {
             assert!(shown.lines > 0, "{} does not show", name);
-        } else {
-            assert!(shown.files + shown.calls > 0, "{} does not show", name);
+        }
+        if Door::Images.shows(*fault) {
+            assert!(shown.calls > 0, "{} does not show", name);
+        }
+        if Door::Schedules.shows(*fault) {
+            assert!(shown.files > 0, "{} does not show", name);
         }
     }
 }

@@ -3,7 +3,7 @@
 #![deny(warnings)]
 
 use std::collections::BTreeMap;
-use twin::generate::probe::{image_line, strip_line};
+use twin::generate::probe::{image_line, strip_line, whole_line};
 use twin::random::{seed_or, Random};
 use twin::Twin;
 
@@ -72,4 +72,11 @@ fn every_number_occurs_at_the_image_door() {
     let numbers = count(image_line, seed_or(42), 20_000);
     let seen: Vec<u32> = numbers.keys().copied().collect();
     assert_eq!(seen, [0, 1, 2, 3, 4, 5, 6, 7, 8, 9, 11, 16, 17, 18, 19]);
+}
+
+#[test]
+fn every_number_occurs_with_whole_images() {
+    let numbers = count(whole_line, seed_or(43), 4000);
+    let seen: Vec<u32> = numbers.keys().copied().collect();
+    assert_eq!(seen, [0, 1, 2, 4]);
 }

@@ -1,4 +1,3 @@
-use denote.Ref.{now}
 use Rattle.entry.proofs.Asks.{asks-unknown, asks-start, asks-step, asks-withdraw}
 use borrow.Author.Needs.{needs}
 use Rattle.entry.proofs.read.Statement.{statement}

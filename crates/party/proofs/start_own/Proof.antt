@@ -1,34 +1,32 @@
+use borrow.Author.Tests.{eq-eqb, ne-eqb}
 use Rattle.party.specs.Calls.{startOwn}
 use borrow.Author.Needs.{needs}
 use Rattle.party.proofs.start_own.Statement.{statement}
 use Rattle.party.proofs.start_own.Tie as tie
 
-order-fits-requires : tie.Need-order-fits-requires
-order-fits-requires c κs = search needs
-
-pick-u32-requires : tie.Need-pick-u32-requires
-pick-u32-requires c κs = search needs
-
 is-valid-requires : tie.Need-is-valid-requires
 is-valid-requires c κs = search needs
 
-pick-u32-requires-2 : tie.Need-pick-u32-requires-2
-pick-u32-requires-2 c κs = search needs
-
-pick-u32-requires-3 : tie.Need-pick-u32-requires-3
-pick-u32-requires-3 c κs = search needs
-
 returns : tie.Need-returns
 unfolding startOwn
-returns c = simp (c .pick-u323 .ensures, c .before .pick-u322 .ensures, c .before .before .before .is-valid .ensures, c .before .before .before .before .pick-u32 .ensures, c .before .before .before .before .before .order-fits .ensures)
+returns c = simp (← c .before .is-valid .ensures, c .if1 .taken)
+
+returns-2 : tie.Need-returns-2
+unfolding startOwn
+returns-2 c = simp (← c .before .before .before .is-valid .ensures, c .before .before .if1 .left, ne-eqb _ 0 (c .if2 .taken))
+
+order-fits-requires : tie.Need-order-fits-requires
+order-fits-requires c κs = search needs
+
+returns-3 : tie.Need-returns-3
+unfolding startOwn
+returns-3 c = simp (← c .before .before .before .before .before .is-valid .ensures, c .before .before .before .before .if1 .left, eq-eqb _ 0 (c .before .before .if2 .left), ← c .before .order-fits .ensures, c .if3 .taken)
+
+returns-4 : tie.Need-returns-4
+unfolding startOwn
+returns-4 c = simp (← c .before .before .before .before .before .is-valid .ensures, c .before .before .before .before .if1 .left, eq-eqb _ 0 (c .before .before .if2 .left), ← c .before .order-fits .ensures, c .if3 .left)
 
 pub start-own-spec : {M : Type 1} → statement M
 start-own-spec =
     tie.close
-    (tie.spec
-    order-fits-requires
-    pick-u32-requires
-    is-valid-requires
-    pick-u32-requires-2
-    pick-u32-requires-3
-    returns)
+    (tie.spec is-valid-requires returns returns-2 order-fits-requires returns-3 returns-4)

@@ -1,7 +1,7 @@
 use native.Mathlib.Omega.{arith}
 use Prim.Native.Nat.{ℕ, _<_}
 use mathlib.Core.List.{List}
-use mathlib.Core.Path.{_≡_, refl, sym, _∙_, ap, subst}
+use mathlib.Core.Path.{_≡_, sym, _∙_, ap, subst}
 use Rattle.party.specs.declared.Record.{Record}
 use Rattle.step.specs.Table.{lineOf}
 use Rattle.step.specs.Step.{stepRefusal}

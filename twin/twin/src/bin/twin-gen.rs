@@ -1,18 +1,18 @@
 //! `twin-gen KIND SEED COUNT DIR`: writes COUNT random schedule files of the KIND
 //! sensible, contended, wild or damaged to DIR, as KIND-SEED-NUMBER.pdo.
 //!
-//! The kinds probe-strips and probe-images write one file KIND-SEED.txt with
-//! COUNT lines for the probe. The same arguments give the same bytes.
+//! The kinds probe-strips, probe-images and probe-whole write one file
+//! KIND-SEED.txt with COUNT lines for the probe. The same arguments give the same bytes.
 #![forbid(unsafe_code)]
 #![deny(warnings)]
 
 use std::path::Path;
-use twin::generate::probe::{image_line, strip_line};
+use twin::generate::probe::{image_line, strip_line, whole_line};
 use twin::generate::schedule::{file, Kind};
 use twin::random::Random;
 
 const USE: &str = "use: twin-gen KIND SEED COUNT DIR, with KIND one of \
-    sensible, contended, wild, damaged, probe-strips, probe-images";
+    sensible, contended, wild, damaged, probe-strips, probe-images, probe-whole";
 
 fn main() {
     let arguments: Vec<String> = std::env::args().skip(1).collect();
@@ -26,25 +26,13 @@ fn main() {
     std::fs::create_dir_all(directory).expect("DIR can be made");
     let kind = arguments[0].as_str();
     let mut random = Random::new(seed);
+    let text = directory.join(format!("{}-{}.txt", kind, seed));
     match kind {
-        "probe-strips" => lines(
-            &mut random,
-            count,
-            strip_line,
-            &directory.join(text_name(kind, seed)),
-        ),
-        "probe-images" => lines(
-            &mut random,
-            count,
-            image_line,
-            &directory.join(text_name(kind, seed)),
-        ),
+        "probe-strips" => lines(&mut random, count, strip_line, &text),
+        "probe-images" => lines(&mut random, count, image_line, &text),
+        "probe-whole" => lines(&mut random, count, whole_line, &text),
         _ => files(&mut random, kind, seed, count, directory),
     }
-}
-
-fn text_name(kind: &str, seed: u64) -> String {
-    format!("{}-{}.txt", kind, seed)
 }
 
 fn lines(random: &mut Random, count: usize, line: fn(&mut Random) -> String, path: &Path) {

@@ -38,16 +38,20 @@ pub fn strip_line(random: &mut Random) -> String {
     }
 }
 
-/// An image: the four calls of the C firmware, reading and writing.
+/// A whole image: reading or writing.
+pub fn whole_line(random: &mut Random) -> String {
+    if random.percent(50) {
+        let image = image::any(random);
+        read_line(random, &image)
+    } else {
+        write_line(random)
+    }
+}
+
+/// An image: the four calls of the C firmware.
 pub fn image_line(random: &mut Random) -> String {
     let image = image::any(random);
     let hex = to_hex(&image);
-    if random.percent(20) {
-        return read_line(random, &image);
-    }
-    if random.percent(20) {
-        return write_line(random);
-    }
     match image::call(random, &image) {
         Call::Lay {
             parties,
@@ -144,32 +148,58 @@ fn read_line(random: &mut Random, image: &[u8]) -> String {
     format!("read {} {} {}", words, parties, to_hex(image))
 }
 
+/// A strip, a table and bytes of mostly fitting lengths; no byte counts.
 fn write_line(random: &mut Random) -> String {
-    let max = random.between(1, 8) as usize;
-    let words = strip::strip(random, max);
-    let parties = random.below(18).saturating_sub(random.below(18));
-    let spoils = random.percent(30);
-    let mut records = String::new();
-    for _ in 0..parties {
-        let spoil = spoils && random.percent(20);
-        let record = if spoil {
-            strip::spoilt_record(random, &words)
-        } else {
-            strip::record(random, &words)
-        };
-        records.push_str(&join_record(&record));
-    }
-    let mut length = 8 + 8 * words.len() + 32 * parties as usize;
-    if random.percent(10) {
-        length = length + random.below(3) as usize - 1;
+    let words = strip_to_write(random);
+    let table = table_to_write(random, &words);
+    let mut length = 8 + 8 * words.len() + 32 * table.len();
+    match random.below(20) {
+        0 => length -= 1,
+        1 => length += 1,
+        2 => length = random.below(65) as usize,
+        _ => (),
     }
     let bytes: Vec<u8> = (0..length).map(|_| random.next() as u8).collect();
+    let records: String = table.iter().map(join_record).collect();
     format!(
         "write {}{} {}{} {}",
         words.len(),
         join_words(&words),
-        parties,
+        table.len(),
         records,
         to_hex(&bytes)
     )
+}
+
+fn strip_to_write(random: &mut Random) -> Vec<Word> {
+    match random.below(200) {
+        0 => strip::shaped(random, 4094),
+        1 => strip::shaped(random, 4095),
+        2..=8 => (0..random.below(3)).map(|_| random.next()).collect(),
+        _ => {
+            let max = random.between(1, 8) as usize;
+            strip::strip(random, max)
+        }
+    }
+}
+
+/// One in three has spoilt records among the others.
+fn table_to_write(random: &mut Random, words: &[Word]) -> Vec<Record> {
+    let parties = match random.below(20) {
+        0 => random.pick(&[0, 17]),
+        1 => 16,
+        _ => random.between(1, 6),
+    };
+    let spoils = random.percent(33);
+    (0..parties)
+        .map(|_| {
+            if words.len() < 3 {
+                Record::default()
+            } else if spoils && random.percent(40) {
+                strip::spoilt_record(random, words)
+            } else {
+                strip::record(random, words)
+            }
+        })
+        .collect()
 }

@@ -1,3 +1,4 @@
+use borrow.Author.Tests.{eq-eqb, ne-eqb, not-true, not-false}
 use Rattle.party.specs.Valid.{validOf}
 use borrow.Author.Needs.{needs}
 use Rattle.party.proofs.valid.is_valid.Statement.{statement}
@@ -6,25 +7,31 @@ use Rattle.party.proofs.valid.is_valid.Tie as tie
 idle-fits-requires : tie.Need-idle-fits-requires
 idle-fits-requires c κs = search needs
 
+returns : tie.Need-returns
+unfolding validOf
+returns c = simp (eq-eqb _ 0 (c .before .if1 .taken), c .idle-fits .ensures)
+
 operation-fits-requires : tie.Need-operation-fits-requires
 operation-fits-requires c κs = search needs
+
+returns-2 : tie.Need-returns-2
+unfolding validOf
+returns-2 c = simp (ne-eqb _ 0 (c .before .before .if1 .left), ← c .before .operation-fits .ensures, not-true (c .before .operation-fits .result) (c .if2 .taken))
 
 stage-fits-requires : tie.Need-stage-fits-requires
 stage-fits-requires c κs = search needs
 
-pick-bool-requires : tie.Need-pick-bool-requires
-pick-bool-requires c κs = search needs
-
-returns : tie.Need-returns
+returns-3 : tie.Need-returns-3
 unfolding validOf
-returns c = simp (c .pick-bool .ensures, c .before .stage-fits .ensures, c .before .before .operation-fits .ensures, c .before .before .before .idle-fits .ensures)
+returns-3 c = simp (ne-eqb _ 0 (c .before .before .before .if1 .left), ← c .before .before .operation-fits .ensures, not-false (c .before .before .operation-fits .result) (c .before .if2 .left), c .stage-fits .ensures)
 
 pub is-valid-spec : {M : Type 1} → statement M
 is-valid-spec =
     tie.close
     (tie.spec
     idle-fits-requires
+    returns
     operation-fits-requires
+    returns-2
     stage-fits-requires
-    pick-bool-requires
-    returns)
+    returns-3)

@@ -1,4 +1,4 @@
-use Rattle.schedule.proofs.Puts.{room-left, room-right, puts-then}
+use Rattle.schedule.proofs.Puts.{puts-then}
 use borrow.Author.Needs.{needs}
 use Rattle.schedule.proofs.lines.put_cells.Statement.{statement}
 use Rattle.schedule.proofs.lines.put_cells.Tie as tie

@@ -1,5 +1,4 @@
 use Rattle.schedule.proofs.Puts.{room-left, room-right, puts-then}
-use mathlib.Core.Path.{ap}
 use borrow.Author.Needs.{needs}
 use Rattle.schedule.proofs.lines.put_line.Statement.{statement}
 use Rattle.schedule.proofs.lines.put_line.Tie as tie

@@ -1,10 +1,8 @@
-use Rattle.schedule.proofs.Puts.{room-left, room-right, puts-then}
+use Rattle.schedule.proofs.Puts.{room-left}
 use Prim.Native.Nat.{_-_}
-use mathlib.Core.Path.{_≡_}
 use lib.ListN.{length, drop}
 use native.Mathlib.Omega.{arith}
 use Rattle.schedule.specs.Listing.{wordsText}
-use Rattle.schedule.specs.Writing.{Room, Puts}
 use Rattle.schedule.proofs.Puts.{Rest, rest-begins, rest-room, rest-goes-on, rest-ends}
 use Rattle.schedule.proofs.Words.{words-more, words-end}
 use borrow.Author.Needs.{needs}

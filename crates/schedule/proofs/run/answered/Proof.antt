@@ -1,6 +1,5 @@
-use mathlib.Core.Path.{sym, _∙_, ap}
+use mathlib.Core.Path.{sym, _∙_}
 use Rattle.party.proofs.Gives.{gives}
-use Rattle.party.specs.Answer.{refused}
 use Rattle.schedule.proofs.Turns.{turned-away, let-through, gate-fits}
 use borrow.Author.Needs.{needs}
 use Rattle.schedule.proofs.run.answered.Statement.{statement}

@@ -1,8 +1,8 @@
 use Prim.Native.Nat.{ℕ, _≤_, _+_, _-_}
 use mathlib.Core.List.{List}
-use mathlib.Core.Path.{_≡_, refl, sym, _∙_, ap}
+use mathlib.Core.Path.{_≡_, refl, _∙_, ap}
 use lib.ListN.{length, getD, set, take, length-set}
-use lib.Seq.{sets, length-sets, take-all}
+use lib.Seq.{sets, take-all}
 use native.Mathlib.Omega.{arith}
 use borrow.Author.Needs.{needs}
 use Rattle.schedule.proofs.Puts.{copied-one-more}
