@@ -2,46 +2,20 @@
 use crate::Turn;
 use entry::Entry;
 use logic::pick_u32;
-use party::Answer;
 use party::Answered;
 use party::Record;
 use party::make::refused_with;
 use step::strip_fits;
+use step::table_fits;
 ghost use mathlib.Core.Path.{_≡_};
 ghost use mathlib.Core.Bool.{true};
 ghost use lib.ListN.{length};
-ghost use Rattle.party.specs.Answer.{numberOf, carriedOf, Gives};
+ghost use Rattle.party.specs.Answer.{Gives};
 ghost use Rattle.step.specs.Step.{stripFits};
-ghost use Rattle.step.specs.Call.{partyOf, isUnknown, tableFits, gate, ownOf, ownLeaves};
+ghost use Rattle.step.specs.Call.{partyOf, isUnknown, gate, ownOf, ownLeaves};
 ghost use Rattle.entry.specs.Entry.{callOf};
 ghost use Rattle.history.specs.Run.{isStep};
 ghost use Rattle.schedule.specs.Turn.{turnOf, turnLeaves, Follows, TurnPromise};
-
-fn number_of(answer: Answer) -> u32
-    ensures { λ n. ⌜ n ≡ numberOf answer ⌝ }
-{
-    match answer {
-        Answer::GoesOn => 0,
-        Answer::Pushed => 16,
-        Answer::Popped(_) => 17,
-        Answer::Full => 18,
-        Answer::Empty => 19,
-        Answer::Refused(number) => number,
-    }
-}
-
-fn carried_of(answer: Answer) -> u32
-    ensures { λ n. ⌜ n ≡ carriedOf answer ⌝ }
-{
-    match answer {
-        Answer::Popped(order) => order,
-        Answer::GoesOn => 0,
-        Answer::Pushed => 0,
-        Answer::Full => 0,
-        Answer::Empty => 0,
-        Answer::Refused(_) => 0,
-    }
-}
 
 pub fn party_of(e: Entry) -> u8
     ensures { λ p. ⌜ p ≡ partyOf (callOf e) ⌝ }
@@ -73,17 +47,11 @@ fn is_step(e: Entry) -> bool
     }
 }
 
-fn table_fits(parties: u8) -> bool
-    ensures { λ t. ⌜ t ≡ tableFits parties ⌝ }
-{
-    (1 <= parties) & (parties <= 16)
-}
-
 // The checks before the record's own.
 fn gate_of(words: usize, parties: u8, e: Entry) -> u32
     ensures { λ n. ⌜ n ≡ gate words parties (callOf e) ⌝ }
 {
-    let fits = strip_fits(words) & table_fits(parties);
+    let fits = strip_fits(words) & table_fits(parties as usize);
     let far = pick_u32(parties <= party_of(e), 3, 0);
     pick_u32(!fits, 1, pick_u32(is_unknown(e), 11, far))
 }
@@ -119,11 +87,11 @@ fn told(a: Answered, steps: bool, stage: u8, look: u32, entry: u32) -> Turn
 {
     let answer = a.answer;
     let rec = a.rec;
-    let number = number_of(answer);
+    let number = party::number(answer);
     let looked = steps & (number == 0) & ((stage == 1) | (stage == 2));
     Turn {
         number,
-        carried: carried_of(answer),
+        carried: party::carried(answer),
         effect: pick_u32((number == 18) | (number == 19), look, entry),
         rec,
         look: pick_u32(looked, entry, look),

@@ -15,6 +15,7 @@ use word::look;
 use word::swap;
 ghost use mathlib.Core.Path.{_≡_};
 ghost use Prim.Native.Nat.{_<_};
+ghost use Rattle.step.specs.Call.{tableFits};
 ghost use Rattle.step.specs.Step.{stripFits, hintFits, stepOwn, stepRefusal, aimed, StepPromise};
 
 // What follows a look: the word is remembered as the first; as the second, and judged; or rechecks the first.
@@ -37,11 +38,17 @@ pub enum Line {
     Swap(u32, u64, u32, AfterSwap),
 }
 
-// Public for the calls on a whole strip.
+// These two are public for the calls on a whole strip and a table.
 pub fn strip_fits(words: usize) -> bool
     ensures { λ t. ⌜ t ≡ stripFits words ⌝ }
 {
     (3 <= words) & (words <= 4096)
+}
+
+pub fn table_fits(parties: usize) -> bool
+    ensures { λ t. ⌜ t ≡ tableFits parties ⌝ }
+{
+    (1 <= parties) & (parties <= 16)
 }
 
 fn hint_fits(max: u16, r: Record, hint: u32) -> bool

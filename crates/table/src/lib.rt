@@ -5,11 +5,12 @@ use party::Answer;
 use party::Answered;
 use party::Record;
 use step::strip_fits;
+use step::table_fits;
 ghost use mathlib.Core.Path.{_≡_};
 ghost use Prim.Native.Nat.{_+_};
 ghost use Rattle.party.specs.Calls.{startOf, withdrawOf};
 ghost use Rattle.step.specs.Step.{stepOf, stepLeaves};
-ghost use Rattle.step.specs.Call.{tableFits, gate};
+ghost use Rattle.step.specs.Call.{gate};
 ghost use Rattle.step.specs.Call.Call.{start, step, withdraw};
 ghost use Rattle.table.specs.Said.{saidOf, toldOf};
 ghost use Rattle.table.specs.Lent.{gateOf, alone, Does, DoesAtMax};
@@ -29,28 +30,9 @@ pub struct Told {
 fn say(answer: Answer) -> Said
     ensures { λ s. ⌜ s ≡ saidOf answer ⌝ }
 {
-    match answer {
-        Answer::GoesOn => Said {
-            number: 0,
-            carried: 0,
-        },
-        Answer::Pushed => Said {
-            number: 16,
-            carried: 0,
-        },
-        Answer::Popped(order) => Said {
-            number: 17,
-            carried: order,
-        },
-        Answer::Full => Said {
-            number: 18,
-            carried: 0,
-        },
-        Answer::Empty => Said {
-            number: 19,
-            carried: 0,
-        },
-        Answer::Refused(number) => Said { number, carried: 0 },
+    Said {
+        number: party::number(answer),
+        carried: party::carried(answer),
     }
 }
 
@@ -82,12 +64,6 @@ fn withdraw_told(max: u32, r: Record) -> Told
     ensures { λ t. ⌜ t ≡ toldOf (withdrawOf max r) ⌝ }
 {
     tell(party::withdraw(max, r))
-}
-
-fn table_fits(parties: usize) -> bool
-    ensures { λ t. ⌜ t ≡ tableFits parties ⌝ }
-{
-    (1 <= parties) & (parties <= 16)
 }
 
 fn gated(words: usize, unknown: bool, parties: usize, party: u32) -> u32

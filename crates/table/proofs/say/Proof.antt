@@ -2,55 +2,14 @@ use borrow.Author.Needs.{needs}
 use Rattle.table.proofs.say.Statement.{statement}
 use Rattle.table.proofs.say.Tie as tie
 
-enum-told : tie.Need-enum-told
-enum-told c = search needs
+number-requires : tie.Need-number-requires
+number-requires c κs = search needs
 
-enum-told-2 : tie.Need-enum-told-2
-enum-told-2 c = search needs
-
-enum-known-answer : tie.Need-enum-known-answer
-enum-known-answer c = search needs
-
-enum-told-3 : tie.Need-enum-told-3
-enum-told-3 c = search needs
-
-enum-told-4 : tie.Need-enum-told-4
-enum-told-4 c = search needs
-
-enum-known-answer-2 : tie.Need-enum-known-answer-2
-enum-known-answer-2 c = search needs
+carried-requires : tie.Need-carried-requires
+carried-requires c κs = search needs
 
 returns : tie.Need-returns
-returns c = simp (c .enum-told .given .1)
-
-returns-2 : tie.Need-returns-2
-returns-2 c = simp (c .enum-told2 .given .1)
-
-returns-3 : tie.Need-returns-3
-returns-3 c = simp (c .before .answer .given .1)
-
-returns-4 : tie.Need-returns-4
-returns-4 c = simp (c .enum-told3 .given .1)
-
-returns-5 : tie.Need-returns-5
-returns-5 c = simp (c .enum-told4 .given .1)
-
-returns-6 : tie.Need-returns-6
-returns-6 c = simp (c .before .answer2 .given .1)
+returns c = simp (c .before .number .ensures, c .carried .ensures)
 
 pub say-spec : {M : Type 1} → statement M
-say-spec =
-    tie.close
-    (tie.spec
-    enum-told
-    enum-told-2
-    enum-known-answer
-    enum-told-3
-    enum-told-4
-    enum-known-answer-2
-    returns
-    returns-2
-    returns-3
-    returns-4
-    returns-5
-    returns-6)
+say-spec = tie.close (tie.spec number-requires carried-requires returns)

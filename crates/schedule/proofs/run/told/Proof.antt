@@ -3,11 +3,11 @@ use borrow.Author.Needs.{needs}
 use Rattle.schedule.proofs.run.told.Statement.{statement}
 use Rattle.schedule.proofs.run.told.Tie as tie
 
-number-of-requires : tie.Need-number-of-requires
-number-of-requires c κs = search needs
+number-requires : tie.Need-number-requires
+number-requires c κs = search needs
 
-carried-of-requires : tie.Need-carried-of-requires
-carried-of-requires c κs = search needs
+carried-requires : tie.Need-carried-requires
+carried-requires c κs = search needs
 
 pick-u32-requires : tie.Need-pick-u32-requires
 pick-u32-requires c κs = search needs
@@ -19,10 +19,10 @@ returns : tie.Need-returns
 returns c =
     let effect = c .before in
     let carried = effect .before in
-    let number = carried .before .number-of .ensures in
+    let number = carried .before .number .ensures in
     record {
       number = number;
-      carried = carried .carried-of .ensures;
+      carried = carried .carried .ensures;
       effect = rw (← number) (effect .pick-u32 .ensures);
       rec = refl;
       look = rw (← number) (c .pick-u322 .ensures);
@@ -31,4 +31,4 @@ returns c =
 pub told-spec : {M : Type 1} → statement M
 told-spec =
     tie.close
-    (tie.spec number-of-requires carried-of-requires pick-u32-requires pick-u32-requires-2 returns)
+    (tie.spec number-requires carried-requires pick-u32-requires pick-u32-requires-2 returns)
