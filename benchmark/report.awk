@@ -19,6 +19,7 @@ function whole(kind, max, operation, library,    i, sum) {
 }
 
 function cell(kind, proved, ordinary) {
+    if (ordinary <= 0) return " not measured |"
     return sprintf(kind == "count" && proved > ordinary ? " **%.2f** (%s / %s) |" : " %.2f (%s / %s) |", \
         proved / ordinary, plain(kind, proved), plain(kind, ordinary))
 }
@@ -28,7 +29,8 @@ function table(kind,    i, j) {
     for (i = 1; i <= 4; i++) {
         printf "| a whole %s, mean of its five calls |", operations[i]
         for (j = 1; j <= 3; j++)
-            printf "%s", cell(kind, whole(kind, sizes[j], operations[i], "pds") / 5, whole(kind, sizes[j], operations[i], "base") / 5)
+            printf "%s", cell(kind, whole(kind, sizes[j], operations[i], "pds") / 5, \
+                whole(kind, sizes[j], operations[i], "base") / 5)
         print ""
     }
     for (i = 1; i <= calls; i++) {
@@ -76,7 +78,8 @@ function judge_thumb(    f, most, where) {
     for (f in deep)
         if (f ~ /^pds_/ && deep[f] > most) { most = deep[f]; where = f }
     goal("Cortex-M: no call above 256 bytes of stack, with all that it calls", most " bytes (`" where "`)", most > 0 && most <= 256)
-    goal("Cortex-M: the four calls within 4,096 bytes of code, with all that they call", commas(all) " bytes", all > 0 && all <= 4096)
+    goal("Cortex-M: the four calls within 4,096 bytes of code, with all that they call", commas(all) " bytes", \
+        all > 0 && all <= 4096)
 }
 
 BEGIN {
@@ -95,10 +98,11 @@ $1 == "thumb in all" { all = $2; next }
 END {
     print "# Benchmark\n"
     print "Written by `./bench` on " date ": " machine "; " tools ".\n"
-    print "The proved library (`tools/build-lib host`) beside [an ordinary careful Rust version](../benchmark/baseline/src/lib.rs) of the" \
-        " same four calls: safe, in place, every check of document 01 in its order, built for release with link-time optimisation." \
-        " Each kind of call is made by both on the same bytes, on images with 4 parties; both must answer alike and leave the same" \
-        " bytes ([benchmark/calls.c](../benchmark/calls.c)).\n"
+    print "The proved library (`tools/build-lib host`) beside [an ordinary careful Rust " \
+        "version](../benchmark/baseline/src/lib.rs) of the same four calls: safe, in place, every check of document 01 in " \
+        "its order, built for release with link-time optimisation. Each kind of call is made by both on the same bytes, " \
+        "on images with 4 parties; both must answer alike and leave the same bytes " \
+        "([benchmark/calls.c](../benchmark/calls.c)).\n"
     print "## Goals\n"
     print "Judged by instructions, which are the same in every run on one machine; time is given beside them.\n"
     print "| goal | measured | |\n|---|---|---|"
@@ -107,17 +111,19 @@ END {
     judge_growth()
     judge_thumb()
     print "\n## Instructions\n"
-    print "Ratio, then proved / ordinary: every instruction from entering the call to leaving it, what it calls included (valgrind's" \
-        " callgrind). A ratio above 1.00 is bold. A step goes by the stage it is made at and what came of it: the stage that follows," \
-        " or the answer. A whole operation is a start and four steps with a true hint. A refused call goes by its number. Laying clears bytes by the C library's memset," \
-        " whose one repeated instruction callgrind counts once for each byte from some 2 KiB on."
+    print "Ratio, then proved / ordinary: every instruction from entering the call to leaving it, what it calls included " \
+        "(valgrind's callgrind). A ratio above 1.00 is bold. A step goes by the stage it is made at and what came of it: " \
+        "the stage that follows, or the answer. A whole operation is a start and four steps with a true hint. A refused " \
+        "call goes by its number. Laying clears bytes by the C library's memset, whose one repeated instruction callgrind " \
+        "counts once for each byte from some 2 KiB on."
     table("count")
     print "\n## Time\n"
-    print "Ratio, then nanoseconds, proved / ordinary: what one call adds to a loop that puts back the bytes it changed, the least of" \
-        " 101 rounds in which the two take turns."
+    print "Ratio, then nanoseconds, proved / ordinary: what one call adds to a loop that puts back the bytes it changed, " \
+        "the least of 101 rounds in which the two take turns."
     table("time")
     print "\n## Cortex-M\n"
-    print "Bytes of code and of stack for `thumbv7em-none-eabi` at -Os, by the compiler's own account.\n"
+    print "Bytes of code and of stack for `thumbv7em-none-eabi` at -Os, by the compiler's own account. The stack of memset, which " \
+        "whoever links the archive brings, is not in it.\n"
     print "| function | code | its own stack | with all that it calls |\n|---|---|---|---|"
     for (i = 1; i <= lines; i++)
         printf "| `%s` | %s | %d | %d |\n", functions[i], commas(code[functions[i]]), own[functions[i]], deep[functions[i]]

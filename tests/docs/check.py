@@ -75,6 +75,19 @@ def check_names():
                         held_by(where, NAME.findall(names), sources(page, link))
 
 
+def check_known():
+    """A theorem's sentence, a definition's or a function's name stands somewhere in the sources, linked or not."""
+    text = "\n".join(path.read_text() for kind in ["*.antt", "*.rt"] for path in Path("crates").rglob(kind))
+    for path in ["include/pds.h", "tools/build-lib", "rust/src/lib.rs", "rust/build.rs"]:
+        text += Path(path).read_text()
+    edits = {path.stem for path in Path("crates").glob("*/must-fail/*.edit")}
+    for page in PAGES:
+        for where, line in prose(page):
+            for name in NAME.findall(line):
+                if page.parent.name != "twin" and name not in edits and re.search(r"-\w+-|[a-z][A-Z]|_", name):
+                    check("names", occurs(name, text), f"{where}: `{name}` is nowhere in the sources")
+
+
 def check_calls():
     """`crate::name` is a public function, type or module of that crate. BENCHMARK has the compiler's names, of the day it ran."""
     for page in PAGES:
@@ -146,7 +159,7 @@ def check_programs():
         check("programs", path in dict(shown), f"README.md: does not show {path}")
 
 
-for part in [check_links, check_names, check_calls, check_paths, check_edits, check_map, check_programs]:
+for part in [check_links, check_names, check_known, check_calls, check_paths, check_edits, check_map, check_programs]:
     part()
 for kind, count in counts.items():
     if count == 0:
