@@ -44,7 +44,7 @@ callAt bytes at =
     (unknown (partyAt bytes at))
 
 -- the call that an entry asks for
-abbrev pub callOf : Entry → Call
-callOf (Start party operation order) = Call.start party operation order
-callOf (Step party hint) = Call.step party hint
-callOf (Withdraw party) = Call.withdraw party
+abbrev pub askedOf : Entry → Call
+askedOf (Start party operation order) = Call.start party operation order
+askedOf (Step party hint) = Call.step party hint
+askedOf (Withdraw party) = Call.withdraw party

@@ -3,7 +3,7 @@ use little::number_4;
 ghost use mathlib.Core.Path.{_≡_};
 ghost use Prim.Native.Nat.{_+_, _≤_};
 ghost use lib.ListN.{length};
-ghost use Rattle.entry.specs.Entry.{isKnown, callAt, callOf};
+ghost use Rattle.entry.specs.Entry.{isKnown, callAt, askedOf};
 
 // What an entry asks for, the party first: specs/Entry.antt gives the call for each case.
 // One that asks for nothing known is a start of operation 4.
@@ -22,7 +22,7 @@ fn is_known(act: u8, operation: u8, zero: u8, number: u32) -> bool
 // The entry from byte `at` on. Public for the schedule, which has checked the file's length.
 pub fn read(file: &[u8], at: usize) -> Entry
     requires { ⌜ at + 8 ≤ length (now file) ⌝ }
-    ensures { λ e. ⌜ callOf e ≡ callAt (now (file .entry)) at ⌝ }
+    ensures { λ e. ⌜ askedOf e ≡ callAt (now (file .entry)) at ⌝ }
 {
     let act = file[at];
     let party = file[at + 1];

@@ -15,7 +15,7 @@ use Rattle.party.specs.declared.Record.{Record}
 use Rattle.step.specs.Step.{stripFits}
 use Rattle.step.specs.Call.{Call, partyOf, tableFits, isUnknown, gate, through, turnedAway, callOf}
 use Rattle.history.specs.Run.{State, lineOf, leaves}
-use Rattle.schedule.specs.Turn.{TurnPromise, lineIn, slotOf}
+use Rattle.schedule.specs.Turn.{TurnPromise, lineIn, partyIn16}
 use Rattle.schedule.specs.declared.Turn.{Turn}
 use Rattle.schedule.proofs.Turns.{turned-away, let-through}
 
@@ -106,9 +106,9 @@ module _ (parties : ℕ) (strip : List ℕ) (table : List Record) (looks : List 
       }
 
   pub enters : (got : Turn) (left : List ℕ)
-      → TurnPromise strip parties (getD table (slotOf call) idle) (getD looks (slotOf call) 0) entry call got left
+      → TurnPromise strip parties (getD table (partyIn16 call) idle) (getD looks (partyIn16 call) 0) entry call got left
       → Enters (stateOf parties strip table looks) entry call got
-      (stateOf parties left (set table (slotOf call) (got .rec)) (set looks (slotOf call) (got .look)))
+      (stateOf parties left (set table (partyIn16 call) (got .rec)) (set looks (partyIn16 call) (got .look)))
   enters got left promise = go (eqb (gate (length strip) parties call) 0) refl
     where
       At : ℕ → Type 0
@@ -118,10 +118,10 @@ module _ (parties : ℕ) (strip : List ℕ) (table : List Record) (looks : List 
 
       go : (clear : Bool) → eqb (gate (length strip) parties call) 0 ≡ clear
           → Enters (stateOf parties strip table looks) entry call got
-          (stateOf parties left (set table (slotOf call) (got .rec)) (set looks (slotOf call) (got .look)))
+          (stateOf parties left (set table (partyIn16 call) (got .rec)) (set looks (partyIn16 call) (got .look)))
       go true e =
           let clear = eqb-true (gate (length strip) parties call) 0 e in
           let at = inside (length strip) parties call clear in
-          let place : partyOf call ≡ slotOf call = omega arith in
+          let place : partyOf call ≡ partyIn16 call = omega arith in
           subst At place (enters-through clear got left) promise
-      go false e = enters-away (eqb-false (gate (length strip) parties call) 0 e) (slotOf call) got left promise
+      go false e = enters-away (eqb-false (gate (length strip) parties call) 0 e) (partyIn16 call) got left promise

@@ -11,7 +11,7 @@ use Rattle.step.specs.Call.{Call}
 use Rattle.entry.specs.Entry.{callAt}
 use Rattle.history.specs.Run.{State, begin, lineOf, leaves, linesFrom, endFrom}
 use Rattle.schedule.specs.File.{callsFrom}
-use Rattle.schedule.specs.Turn.{TurnPromise, lineIn, slotOf}
+use Rattle.schedule.specs.Turn.{TurnPromise, lineIn, partyIn16}
 use Rattle.schedule.specs.Listing.{lineText, linesText, runText}
 use Rattle.schedule.specs.Writing.{Puts}
 use Rattle.schedule.specs.declared.Turn.{Turn}
@@ -58,7 +58,7 @@ pub record Moves (s next : State) (entry : ℕ) (calls rest : List Call) (line :
 
 module _ (file : List ℕ) (parties count : ℕ) (strip : List ℕ) (table : List Record) (looks : List ℕ) (i : ℕ)
     (few : parties ≤ 16) (table-16 : length table ≡ 16) (looks-16 : length looks ≡ 16) (more : i < count) where
-  pub moves : (call : Call) → call ≡ callAt file (10 + 8 * i) → (j : ℕ) → j ≡ slotOf call → (got : Turn) (left : List ℕ)
+  pub moves : (call : Call) → call ≡ callAt file (10 + 8 * i) → (j : ℕ) → j ≡ partyIn16 call → (got : Turn) (left : List ℕ)
       → TurnPromise strip parties (getD table j idle) (getD looks j 0) i call got left
       → Moves (stateOf parties strip table looks) (stateOf parties left (set table j (got .rec)) (set looks j (got .look)))
       i (callsLeft file count i) (callsLeft file count (i + 1)) (lineText i call (lineIn got))

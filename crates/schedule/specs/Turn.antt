@@ -39,5 +39,5 @@ abbrev pub lineIn : Turn → Line
 lineIn t = record { number = t .number; carried = t .carried; effect = t .effect }
 
 -- the place of a call's party in arrays of 16
-abbrev pub slotOf : Call → ℕ
-slotOf call = partyOf call % 16
+abbrev pub partyIn16 : Call → ℕ
+partyIn16 call = partyOf call % 16

@@ -8,15 +8,15 @@ use party::make::idle_record;
 ghost use mathlib.Core.Path.{_≡_};
 ghost use Prim.Native.Nat.{_+_, _*_, _≤_};
 ghost use lib.ListN.{length};
-ghost use Rattle.entry.specs.Entry.{callOf};
+ghost use Rattle.entry.specs.Entry.{askedOf};
 ghost use Rattle.history.specs.Run.{begin, endFrom};
 ghost use Rattle.schedule.specs.File.{callsFrom};
-ghost use Rattle.schedule.specs.Turn.{slotOf};
+ghost use Rattle.schedule.specs.Turn.{partyIn16};
 ghost use Rattle.schedule.specs.Listing.{runText};
 ghost use Rattle.schedule.specs.Writing.{Room, Puts};
 
-fn slot_of(e: Entry) -> usize
-    ensures { λ p. ⌜ p ≡ slotOf (callOf e) ⌝ }
+fn party_in_16(e: Entry) -> usize
+    ensures { λ p. ⌜ p ≡ partyIn16 (askedOf e) ⌝ }
 {
     party_of(e) as usize % 16
 }
@@ -44,7 +44,7 @@ pub fn run_entries(
     let mut i = 0;
     while i < count {
         let e = read(file, 10 + 8 * i);
-        let p = slot_of(e);
+        let p = party_in_16(e);
         let r = table[p];
         let look = looks[p];
         let t = turn(strip, parties, r, look, i as u32, e);

@@ -10,7 +10,7 @@ use word::counter;
 use word::value;
 ghost use mathlib.Core.Path.{_≡_};
 ghost use mathlib.Core.List.{_++_, _∷_, []};
-ghost use Rattle.entry.specs.Entry.{callOf};
+ghost use Rattle.entry.specs.Entry.{askedOf};
 ghost use Rattle.history.specs.Finished.{isResult};
 ghost use Rattle.schedule.specs.Turn.{lineIn};
 ghost use Rattle.schedule.specs.Listing.{effectText, lineText, headerText, wordText, wordsText, cellsText};
@@ -44,8 +44,8 @@ fn put_end(out: &mut [u8], at: usize, t: Turn) -> usize
 
 // Entry, party, number, carried order, effect.
 pub fn put_line(out: &mut [u8], at: usize, entry: u32, e: Entry, t: Turn) -> usize
-    requires { ⌜ Room (lineText entry (callOf e) (lineIn t)) (now out) at ⌝ }
-    ensures { λ next. ⌜ Puts (lineText entry (callOf e) (lineIn t)) (now (out .entry)) at next (now (out .exit)) ⌝ }
+    requires { ⌜ Room (lineText entry (askedOf e) (lineIn t)) (now out) at ⌝ }
+    ensures { λ next. ⌜ Puts (lineText entry (askedOf e) (lineIn t)) (now (out .entry)) at next (now (out .exit)) ⌝ }
 {
     let party = put_decimal(out, at, entry);
     let number = put_spaced(out, party, party_of(e) as u32);

@@ -13,12 +13,12 @@ ghost use lib.ListN.{length};
 ghost use Rattle.party.specs.Answer.{Gives};
 ghost use Rattle.step.specs.Step.{stripFits};
 ghost use Rattle.step.specs.Call.{partyOf, isUnknown, gate, ownOf, ownLeaves};
-ghost use Rattle.entry.specs.Entry.{callOf};
+ghost use Rattle.entry.specs.Entry.{askedOf};
 ghost use Rattle.history.specs.Run.{isStep};
 ghost use Rattle.schedule.specs.Turn.{turnOf, turnLeaves, Follows, TurnPromise};
 
 pub fn party_of(e: Entry) -> u8
-    ensures { λ p. ⌜ p ≡ partyOf (callOf e) ⌝ }
+    ensures { λ p. ⌜ p ≡ partyOf (askedOf e) ⌝ }
 {
     match e {
         Entry::Start(party, _, _) => party,
@@ -28,7 +28,7 @@ pub fn party_of(e: Entry) -> u8
 }
 
 fn is_unknown(e: Entry) -> bool
-    ensures { λ t. ⌜ t ≡ isUnknown (callOf e) ⌝ }
+    ensures { λ t. ⌜ t ≡ isUnknown (askedOf e) ⌝ }
 {
     match e {
         Entry::Start(_, operation, _) => 3 < operation,
@@ -38,7 +38,7 @@ fn is_unknown(e: Entry) -> bool
 }
 
 fn is_step(e: Entry) -> bool
-    ensures { λ t. ⌜ t ≡ isStep (callOf e) ⌝ }
+    ensures { λ t. ⌜ t ≡ isStep (askedOf e) ⌝ }
 {
     match e {
         Entry::Start(_, _, _) => false,
@@ -49,7 +49,7 @@ fn is_step(e: Entry) -> bool
 
 // The checks before the record's own.
 fn gate_of(words: usize, parties: u8, e: Entry) -> u32
-    ensures { λ n. ⌜ n ≡ gate words parties (callOf e) ⌝ }
+    ensures { λ n. ⌜ n ≡ gate words parties (askedOf e) ⌝ }
 {
     let fits = strip_fits(words) & table_fits(parties as usize);
     let far = pick_u32(parties <= party_of(e), 3, 0);
@@ -59,8 +59,8 @@ fn gate_of(words: usize, parties: u8, e: Entry) -> u32
 // The call on the party's own record.
 fn own(strip: &mut [u64], r: Record, e: Entry) -> Answered
     requires { ⌜ stripFits (length (now strip)) ≡ true ⌝ }
-    ensures gives { λ got. ⌜ Gives (ownOf (now (strip .entry)) r (callOf e)) got ⌝ }
-    ensures words { λ got. ⌜ now (strip .exit) ≡ ownLeaves (now (strip .entry)) r (callOf e) ⌝ }
+    ensures gives { λ got. ⌜ Gives (ownOf (now (strip .entry)) r (askedOf e)) got ⌝ }
+    ensures words { λ got. ⌜ now (strip .exit) ≡ ownLeaves (now (strip .entry)) r (askedOf e) ⌝ }
 {
     let max = (strip.len() - 2) as u32;
     match e {
@@ -71,8 +71,8 @@ fn own(strip: &mut [u64], r: Record, e: Entry) -> Answered
 }
 
 fn answered(strip: &mut [u64], parties: u8, r: Record, e: Entry) -> Answered
-    ensures gives { λ got. ⌜ Gives (turnOf (now (strip .entry)) parties r (callOf e)) got ⌝ }
-    ensures words { λ got. ⌜ now (strip .exit) ≡ turnLeaves (now (strip .entry)) parties r (callOf e) ⌝ }
+    ensures gives { λ got. ⌜ Gives (turnOf (now (strip .entry)) parties r (askedOf e)) got ⌝ }
+    ensures words { λ got. ⌜ now (strip .exit) ≡ turnLeaves (now (strip .entry)) parties r (askedOf e) ⌝ }
 {
     let number = gate_of(strip.len(), parties, e);
     if number != 0 {
@@ -100,7 +100,7 @@ fn told(a: Answered, steps: bool, stage: u8, look: u32, entry: u32) -> Turn
 
 // One entry on the record and the last look of its party.
 pub fn turn(strip: &mut [u64], parties: u8, r: Record, look: u32, entry: u32, e: Entry) -> Turn
-    ensures { λ got. ⌜ TurnPromise (now (strip .entry)) parties r look entry (callOf e) got (now (strip .exit)) ⌝ }
+    ensures { λ got. ⌜ TurnPromise (now (strip .entry)) parties r look entry (askedOf e) got (now (strip .exit)) ⌝ }
 {
     told(
         answered(strip, parties, r, e),

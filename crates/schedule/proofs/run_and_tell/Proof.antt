@@ -1,9 +1,14 @@
+use Prim.Native.Nat.{ℕ}
+use mathlib.Core.Path.{_≡_}
+use mathlib.Core.List.{List, _++_}
+use Rattle.history.specs.Run.{endFrom}
+use Rattle.schedule.specs.File.{partiesAt, maxAt, divideAt, callsOf}
+use Rattle.schedule.specs.Listing.{firstState, runText, headerText, cellsText, listingOf}
+use Rattle.schedule.specs.List.{wordsAtEnd}
+use Rattle.schedule.specs.Writing.{Room, Puts}
 use native.Mathlib.Omega.{arith}
 use Rattle.schedule.proofs.Puts.{room-left, room-right, puts-then}
-use Rattle.schedule.proofs.Files.{listable, laid-fresh, room-to-list}
-use Rattle.schedule.specs.Listing.{listingOf}
-use Rattle.schedule.specs.List.{wordsAtEnd}
-use Prim.Native.Nat.{ℕ}
+use Rattle.schedule.proofs.Files.{Listable, listable, laid-fresh, room-to-list}
 use borrow.Author.Needs.{needs}
 use Rattle.schedule.proofs.run_and_tell.Statement.{statement}
 use Rattle.schedule.proofs.run_and_tell.Tie as tie
@@ -42,35 +47,54 @@ sub-run-entries c =
     let start = c .before .before .before .before .before .before .before .before .before .before .before .before .before .before .before in
     omega (arith, listable (start .args .file .now) (start .pre .0) .headed)
 
+-- After the header was put: where the call began, and what is known by then.
+abbrev lay-of : tie.After-put-header → tie.After-lay
+lay-of c = c .before .before .before .before .before
+
+abbrev divide-of : tie.After-put-header → tie.After-number-2
+divide-of c = lay-of c .before .before
+
+abbrev start-of : tie.After-put-header → tie.Start
+start-of c = divide-of c .before .before .before .before .before
+
+abbrev file-of : tie.After-put-header → List ℕ
+file-of c = start-of c .args .file .now
+
+known : (c : tie.After-put-header) → Listable (file-of c)
+known c = listable (file-of c) (start-of c .pre .0)
+
+fresh : (c : tie.After-put-header) → lay-of c .lay .last .0 ≡ firstState (file-of c) .strip
+fresh c =
+    laid-fresh (file-of c) (start-of c .args .strip .now) (divide-of c .number-2 .result) (known c) (start-of c .pre .1)
+    (divide-of c .number-2 .ensures) (lay-of c .lay .ensures)
+
+-- the run and the cells have room behind the header
+abbrev rest-of : List ℕ → List ℕ
+rest-of file = runText (firstState file) 0 (callsOf file) ++ cellsText (endFrom (firstState file) 0 (callsOf file) .strip)
+
+abbrev header-of : List ℕ → List ℕ
+header-of file = headerText (maxAt file) (divideAt file) (partiesAt file)
+
+puts-header : (c : tie.After-put-header) → Puts (header-of (file-of c)) (start-of c .args .out .now) 0 (c .put-header .result) (c .put-header .last .0)
+puts-header c = rw (c .before .number-22 .ensures, divide-of c .number-2 .ensures) at (c .put-header .ensures)
+
+rest-fits : (c : tie.After-put-header) → Room (rest-of (file-of c)) (c .put-header .last .0) (c .put-header .result)
+rest-fits c =
+    room-right _ _
+    (room-to-list (file-of c) (start-of c .args .out .now) (start-of c .pre .0)
+    (λ (i : ℕ). divide-of c .before .before .before .before .shared-slice-known .given i .fits) (start-of c .pre .2))
+    (puts-header c)
+
 run-entries-requires : tie.Need-run-entries-requires
 run-entries-requires c κs =
     let header = c .before .before .before .before in
-    let max = header .before in
-    let lay = max .before .before .before .before in
-    let divide = lay .before .before in
-    let start = divide .before .before .before .before .before in
-    let file = start .args .file .now in
-    let l = listable file (start .pre .0) in
-    let room = room-to-list file (start .args .out .now) (start .pre .0) (λ (i : ℕ). divide .before .before .before .before .shared-slice-known .given i .fits) (start .pre .2) in
-    let fresh = laid-fresh file (start .args .strip .now) (divide .number-2 .result) l (start .pre .1) (divide .number-2 .ensures) (lay .lay .ensures) in
-    let puts-header = rw (max .number-22 .ensures, divide .number-2 .ensures) at (header .put-header .ensures) in
-    (omega (arith, l .headed), l .few, l .parties-high, rw fresh (room-left _ _ (room-right _ _ room puts-header)))
+    (omega (arith, known header .headed), known header .few, known header .parties-high, rw (fresh header) (room-left _ _ (rest-fits header)))
 
 put-cells-requires : tie.Need-put-cells-requires
 put-cells-requires c κs =
     let run = c .before .before .before .before .before .before in
     let header = run .before .before .before .before .before in
-    let max = header .before in
-    let lay = max .before .before .before .before in
-    let divide = lay .before .before in
-    let start = divide .before .before .before .before .before in
-    let file = start .args .file .now in
-    let l = listable file (start .pre .0) in
-    let room = room-to-list file (start .args .out .now) (start .pre .0) (λ (i : ℕ). divide .before .before .before .before .shared-slice-known .given i .fits) (start .pre .2) in
-    let fresh = laid-fresh file (start .args .strip .now) (divide .number-2 .result) l (start .pre .1) (divide .number-2 .ensures) (lay .lay .ensures) in
-    let puts-header = rw (max .number-22 .ensures, divide .number-2 .ensures) at (header .put-header .ensures) in
-    let puts-run = rw fresh at (run .run-entries .ensures .0) in
-    rw (rw fresh at (run .run-entries .ensures .1)) (room-right _ _ (room-right _ _ room puts-header) puts-run)
+    rw (rw (fresh header) at (run .run-entries .ensures .1)) (room-right _ _ (rest-fits header) (rw (fresh header) at (run .run-entries .ensures .0)))
 
 same-length : tie.Need-same-length
 same-length c = search needs
@@ -84,18 +108,9 @@ returns c =
     let cells = c .before .before in
     let run = cells .before .before .before .before .before .before .before in
     let header = run .before .before .before .before .before in
-    let max = header .before in
-    let lay = max .before .before .before .before in
-    let divide = lay .before .before in
-    let start = divide .before .before .before .before .before in
-    let file = start .args .file .now in
-    let l = listable file (start .pre .0) in
-    let room = room-to-list file (start .args .out .now) (start .pre .0) (λ (i : ℕ). divide .before .before .before .before .shared-slice-known .given i .fits) (start .pre .2) in
-    let fresh = laid-fresh file (start .args .strip .now) (divide .number-2 .result) l (start .pre .1) (divide .number-2 .ensures) (lay .lay .ensures) in
-    let puts-header = rw (max .number-22 .ensures, divide .number-2 .ensures) at (header .put-header .ensures) in
-    let puts-run = rw fresh at (run .run-entries .ensures .0) in
-    let words = rw fresh at (run .run-entries .ensures .1) in
-    (puts-then _ _ puts-header (puts-then _ _ puts-run (rw words at (cells .put-cells .ensures))), words)
+    let puts-run = rw (fresh header) at (run .run-entries .ensures .0) in
+    let words = rw (fresh header) at (run .run-entries .ensures .1) in
+    (puts-then _ _ (puts-header header) (puts-then _ _ puts-run (rw words at (cells .put-cells .ensures))), words)
 
 pub run-and-tell-spec : {M : Type 1} → statement M
 run-and-tell-spec =

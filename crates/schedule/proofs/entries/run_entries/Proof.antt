@@ -1,8 +1,15 @@
-use Prim.Native.Nat.{_-_}
+use Prim.Native.Nat.{ℕ, _+_, _-_}
+use mathlib.Core.List.{List}
 use native.Mathlib.Omega.{arith}
-use lib.ListN.{length-set}
+use lib.ListN.{set, length-set}
+use Rattle.step.specs.Call.{Call}
+use Rattle.entry.specs.Entry.{askedOf}
+use Rattle.history.specs.Run.{State}
+use Rattle.schedule.specs.Turn.{lineIn}
+use Rattle.schedule.specs.Listing.{lineText}
+use Rattle.schedule.proofs.Entering.{stateOf}
 use Rattle.schedule.proofs.Puts.{rest-room, room-left}
-use Rattle.schedule.proofs.Running.{Running, moves, running-begins, running-moves, running-ends}
+use Rattle.schedule.proofs.Running.{Running, callsLeft, Moves, moves, running-begins, running-moves, running-ends}
 use borrow.Author.Needs.{needs}
 use Rattle.schedule.proofs.entries.run_entries.Statement.{statement}
 use Rattle.schedule.proofs.entries.run_entries.Tie as tie
@@ -28,8 +35,8 @@ add-read c = search needs
 read-requires : tie.Need-read-requires Inv-loop μ-loop
 read-requires c κs = search needs
 
-slot-of-requires : tie.Need-slot-of-requires Inv-loop μ-loop
-slot-of-requires c κs = search needs
+party-in-16-requires : tie.Need-party-in-16-requires Inv-loop μ-loop
+party-in-16-requires c κs = search needs
 
 mul-r : tie.Need-mul-r Inv-loop μ-loop
 mul-r c = search needs
@@ -64,18 +71,46 @@ array-write-looks c = search needs
 cast-put-line : tie.Need-cast-put-line Inv-loop μ-loop
 cast-put-line c = search needs
 
+-- After the turn: where the loop stood, where the call began, and what the entry came to.
+abbrev loop-of : tie.After-turn Inv-loop μ-loop → tie.At-loop Inv-loop μ-loop
+loop-of c = c .before .before .before .before .before .before
+
+abbrev start-of : tie.After-turn Inv-loop μ-loop → tie.Start Inv-loop μ-loop
+start-of c = loop-of c .before .before .before .before .before
+
+abbrev party-of : tie.After-turn Inv-loop μ-loop → ℕ
+party-of c = c .before .before .before .party-in-16 .result
+
+abbrev asked-of : tie.After-turn Inv-loop μ-loop → Call
+asked-of c = askedOf (c .before .before .before .before .read .result)
+
+abbrev before-of : tie.After-turn Inv-loop μ-loop → State
+before-of c = stateOf (start-of c .args .parties) (loop-of c .loop .strip) (loop-of c .loop .table) (loop-of c .loop .looks)
+
+abbrev after-of : tie.After-turn Inv-loop μ-loop → State
+after-of c =
+    stateOf (start-of c .args .parties) (c .turn .last .0) (set (loop-of c .loop .table) (party-of c) (c .turn .result .rec))
+    (set (loop-of c .loop .looks) (party-of c) (c .turn .result .look))
+
+abbrev left-of : tie.After-turn Inv-loop μ-loop → ℕ → List Call
+left-of c i = callsLeft (start-of c .args .file .now) (start-of c .args .count) i
+
+moved : (c : tie.After-turn Inv-loop μ-loop)
+    → Moves (before-of c) (after-of c) (loop-of c .loop .i) (left-of c (loop-of c .loop .i)) (left-of c (loop-of c .loop .i + 1))
+    (lineText (loop-of c .loop .i) (asked-of c) (lineIn (c .turn .result)))
+moved c =
+    let start = start-of c in
+    let now = loop-of c .loop in
+    moves (start .args .file .now) (start .args .parties) (start .args .count) (now .strip) (now .table) (now .looks) (now .i)
+    (start .pre .2) (now .inv .table-16) (now .inv .looks-16) (omega (arith, c .before .before .before .before .before .loop-test))
+    (asked-of c) (c .before .before .before .before .read .ensures) (party-of c) (c .before .before .before .party-in-16 .ensures)
+    (c .turn .result) (c .turn .last .0) (c .turn .ensures)
+
 put-line-requires : tie.Need-put-line-requires Inv-loop μ-loop
 put-line-requires c κs =
     let turn = c .before .before .before .before in
-    let slot = turn .before .before .before in
-    let read = slot .before in
-    let at = read .before .before in
-    let start = at .before .before .before .before .before in
-    let now = at .loop in
-    let m = moves (start .args .file .now) (start .args .parties) (start .args .count) (now .strip) (now .table) (now .looks) (now .i)
-    (start .pre .2) (now .inv .table-16) (now .inv .looks-16) (omega arith) _ (read .read .ensures) (slot .slot-of .result) (slot .slot-of .ensures)
-    (turn .turn .result) _ (turn .turn .ensures) in
-    room-left _ _ (rw (m .text) at (rest-room (start .pre .3) (now .inv .text)))
+    let at = loop-of turn in
+    room-left _ _ (rw (moved turn .text) at (rest-room (at .before .before .before .before .before .pre .3) (at .loop .inv .text)))
 
 add-i : tie.Need-add-i Inv-loop μ-loop
 add-i c = search needs
@@ -87,15 +122,8 @@ loop-again : tie.Need-loop-again Inv-loop μ-loop
 loop-again c =
     let line = c .before .before in
     let turn = line .before .before .before .before .before in
-    let slot = turn .before .before .before in
-    let read = slot .before in
-    let at = read .before .before in
-    let start = at .before .before .before .before .before in
-    let now = at .loop in
-    let m = moves (start .args .file .now) (start .args .parties) (start .args .count) (now .strip) (now .table) (now .looks) (now .i)
-    (start .pre .2) (now .inv .table-16) (now .inv .looks-16) (omega arith) _ (read .read .ensures) (slot .slot-of .result) (slot .slot-of .ensures)
-    (turn .turn .result) _ (turn .turn .ensures) in
-    running-moves _ _ _ _ _ _ (now .inv) (omega arith) (simp length-set (now .inv .table-16)) (simp length-set (now .inv .looks-16)) (turn .turn .kept .0) m (line .put-line .ensures)
+    let now = loop-of turn .loop in
+    running-moves _ _ _ _ _ _ (now .inv) (omega arith) (simp length-set (now .inv .table-16)) (simp length-set (now .inv .looks-16)) (turn .turn .kept .0) (moved turn) (line .put-line .ensures)
 
 same-length : tie.Need-same-length Inv-loop μ-loop
 same-length c = c .before .loop .inv .words
@@ -117,7 +145,7 @@ run-entries-spec =
     mul-read
     add-read
     read-requires
-    slot-of-requires
+    party-in-16-requires
     mul-r
     array-copy-out-r
     mul-look
