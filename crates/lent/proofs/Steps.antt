@@ -7,9 +7,10 @@
 --      front shifts them. A comment says the context wherever it changes.
 --   2. A call of a covered function. Its `pre` is made of its arguments, from the last to the first: `nothing !`, then `with-u32`,
 --      `with-usize`, `with-struct` for each, then the tokens (`nothing !` and `join !`, or those that are lent on), then `frame !`.
+--      Of one that has a `requires`, `says` the fact first, then the tokens and `frame !`, then the arguments.
 --      After `calls-at`: `after-plain-call` of a callee that was lent nothing, at the fact that it ensures; `after-call` of one that
---      was lent a slice for good: its last list is then in the context. Before `land`: `result-u32`, `result-struct`, which write
---      the result's machine value out.
+--      was lent a slice for good: its last list is then in the context. Before `land`: `result-u32`, `result-unit`,
+--      `result-struct`, which write the result's machine value out.
 --   3. `if c { return ..; }` is `guards`, the first arm ends in `returns-within`, and `some-number`, `no-number` say what `n != 0`
 --      tells. Both arms must end with the same things: `gives-up` a slice that only one arm lends on.
 --   4. One struct behind a `&mut`: `opens-struct` turns [obs; borrow; token] into [its cell; open borrow; obs; auth]; read the cell by
