@@ -13,10 +13,7 @@ use Rattle.step.proofs.Went.{Took}
 use Rattle.strip.specs.Shape.{valueAt}
 use Rattle.fresh.specs.Invariant.{Remembered}
 
--- what a swap writes has the next counter, and its value
-pub raised-counter : (from to : ℕ) → to < 4294967296 → counterOf (raisedTo from to) ≡ counterOf from + 1
-raised-counter from to fits = omega arith
-
+-- what a swap writes has the value that it was to write
 pub raised-value : (from to : ℕ) → to < 4294967296 → valueOf (raisedTo from to) ≡ to
 raised-value from to fits = omega arith
 

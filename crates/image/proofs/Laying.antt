@@ -46,9 +46,6 @@ length-word-bytes [] = refl
 length-word-bytes (w ∷ words) =
     length-append (bytesOf 8 w) (wordBytes words) ∙ omega (arith, length-bytes 8 w, length-word-bytes words)
 
-pub length-fresh : (max divide : ℕ) → divide ≤ max → length (freshStrip max divide) ≡ max + 2
-length-fresh max divide h = simp (length-append, length-replicate) (omega arith)
-
 -- a run of zeros, byte by byte
 pub one-zero-more : (l : List ℕ) (at i : ℕ) → set (sets l at (replicate i 0)) (at + i) 0 ≡ sets l at (replicate (i + 1) 0)
 one-zero-more l at i =

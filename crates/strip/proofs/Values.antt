@@ -47,6 +47,3 @@ module _ (p : Plain) where
 pub fresh-stands-for : (max divide : ℕ) → StandsFor (freshStrip max divide) (freshPlain max divide)
 fresh-stands-for max divide =
     record { values = simp (map-append, map-replicate, append-nil); orders = λ i h. absurd (omega arith) }
-
-pub fresh-places : (max divide : ℕ) → divide ≤ max → placesOf (freshPlain max divide) ≡ max
-fresh-places max divide inside = omega arith

@@ -32,8 +32,8 @@ pub fn raised(w: u64, to: u32) -> u64
     (w / 4294967296 + 1) * 4294967296 + to as u64
 }
 
-// How a swap ends that expects `from` and meets `met`, whatever memory it is made in.
-pub fn weigh(met: u64, from: u64) -> Swapped
+// How a swap ends that expects `from` and meets `met`.
+fn weigh(met: u64, from: u64) -> Swapped
     ensures { λ r. ⌜ r ≡ swapOf met from ⌝ }
 {
     if met != from {
