@@ -32,7 +32,7 @@ refused-named image unknown party got some e =
     }
 
 -- a ladder of refusals that begins with one that may be any number
-passed-number : (number rest : ℕ) → pick (not (eqb number 0)) number rest ≡ 0 → (number ≡ 0) × (rest ≡ 0)
+pub passed-number : (number rest : ℕ) → pick (not (eqb number 0)) number rest ≡ 0 → (number ≡ 0) × (rest ≡ 0)
 passed-number number rest = go (eqb number 0) refl
   where
     go : (none : Bool) → eqb number 0 ≡ none → pick (not none) number rest ≡ 0 → (number ≡ 0) × (rest ≡ 0)

@@ -1,9 +1,9 @@
-// The image: four calls on lent bytes.
-mod fresh;
-mod gate;
+// The image: four calls on lent bytes. Its header and its records are public for the crate of whole images, which checks lengths first.
+pub mod fresh;
+pub mod gate;
 mod line;
 mod memory;
-mod record;
+pub mod record;
 
 use crate::fresh::lay_header;
 use crate::fresh::lay_refusal;

@@ -37,8 +37,8 @@ run-append (u ∷ us) vs l at =
     rw moved (run-append us vs (set l at u) (suc at))
 
 -- a run over a whole list
-pub whole-run : (vs l : List ℕ) → length vs ≡ length l → sets l 0 vs ≡ vs
+pub whole-run : {A : Type 0} (vs l : List A) → length vs ≡ length l → sets l 0 vs ≡ vs
 whole-run vs l e =
     sets-eq vs l 0 (omega arith)
-    ∙ ap (λ (r : List ℕ). vs ++ r) (drop-of-length-le l {i = 0 + length vs} (omega arith))
+    ∙ ap (λ r. vs ++ r) (drop-of-length-le l {i = 0 + length vs} (omega arith))
     ∙ append-nil vs

@@ -1,0 +1,71 @@
+-- A table laid in bytes, record by record, and a whole image, part by part.
+use Prim.Native.Nat.{ℕ, zero, suc, _+_, _*_, _≤_, _<_}
+use mathlib.Core.Path.{_≡_, refl, sym, _∙_, ap}
+use mathlib.Core.List.{List, [], _∷_, _++_, append-nil}
+use lib.ListN.{length, getD, take, length-append}
+use lib.Seq.{sets}
+use native.Mathlib.Nat.{add-zero}
+use native.Mathlib.Numerals.{add-one}
+use native.Mathlib.Omega.{arith}
+use Rattle.party.specs.Record.{idle}
+use Rattle.party.specs.declared.Record.{Record}
+use Rattle.little.specs.Bytes.{bytesOf}
+use Rattle.little.proofs.Runs.{run-append, whole-run}
+use Rattle.little.proofs.Digits.{length-bytes}
+use Rattle.step.specs.Step.{maxOf}
+use Rattle.image.specs.Spelling.{wordBytes, recordBytes}
+use Rattle.image.specs.Calls.{headerBytes}
+use Rattle.image.proofs.Laying.{length-header, length-word-bytes}
+use Rattle.image.proofs.Records.{length-record}
+use Rattle.whole.specs.Whole.{partyBytes, tableBytes, writtenOf}
+
+pub length-party : (r : Record) → length (partyBytes r) ≡ 32
+length-party r = length-append (recordBytes r) (bytesOf 8 0) ∙ omega (arith, length-record r, length-bytes 8 0)
+
+pub length-table-bytes : (table : List Record) → length (tableBytes table) ≡ 32 * length table
+unfolding tableBytes
+length-table-bytes [] = refl
+length-table-bytes (r ∷ table) =
+    length-append (partyBytes r) (tableBytes table) ∙ omega (arith, length-party r, length-table-bytes table)
+
+-- the record and its zeros
+pub party-laid : (l : List ℕ) (at : ℕ) (r : Record) → sets (sets l at (recordBytes r)) (at + 24) (bytesOf 8 0) ≡ sets l at (partyBytes r)
+party-laid l at r = sym (run-append (recordBytes r) (bytesOf 8 0) l at ∙ rw (length-record r) refl)
+
+first-laid : (l : List ℕ) (at : ℕ) (r : Record) (table : List Record)
+    → sets l at (tableBytes (r ∷ table)) ≡ sets (sets l at (partyBytes r)) (at + 32) (tableBytes table)
+unfolding tableBytes
+first-laid l at r table = run-append (partyBytes r) (tableBytes table) l at ∙ rw (length-party r) refl
+
+one-more-laid : (table : List Record) (l : List ℕ) (at i : ℕ) → i < length table
+    → sets (sets l at (tableBytes (take i table))) (at + 32 * i) (partyBytes (getD table i idle)) ≡ sets l at (tableBytes (take (suc i) table))
+unfolding tableBytes
+one-more-laid [] l at i h = absurd (omega arith)
+one-more-laid (r ∷ table) l at zero h = rw (append-nil (partyBytes r), add-zero at) refl
+one-more-laid (r ∷ table) l at (suc i) h =
+    let moved : at + 32 * suc i ≡ at + 32 + 32 * i = omega arith in
+    rw (moved, first-laid l at r (take i table), first-laid l at r (take (suc i) table)) (one-more-laid table (sets l at (partyBytes r)) (at + 32) i (omega arith))
+
+-- the bytes with the first i records laid
+abbrev pub laidTo : (image : List ℕ) (at : ℕ) (table : List Record) → ℕ → List ℕ
+laidTo image at table i = sets image at (tableBytes (take i table))
+
+pub one-record-more : (image : List ℕ) (at : ℕ) (table : List Record) (i : ℕ) → i < length table
+    → sets (laidTo image at table i) (at + 32 * i) (partyBytes (getD table i idle)) ≡ laidTo image at table (i + 1)
+one-record-more image at table i h = rw (add-one i) (one-more-laid table image at i h)
+
+-- the header, the words and the records over all of the bytes
+pub written-laid : (image strip : List ℕ) (table : List Record) → length image ≡ 8 + 8 * length strip + 32 * length table
+    → sets (sets (sets image 0 (headerBytes (maxOf (length strip)) (length table))) 8 (wordBytes strip)) (8 + 8 * length strip) (tableBytes table)
+    ≡ writtenOf strip table
+written-laid image strip table exact =
+    let header = headerBytes (maxOf (length strip)) (length table) in
+    let words = wordBytes strip in
+    let records = tableBytes table in
+    let short : length header ≡ 8 = length-header (maxOf (length strip)) (length table) in
+    let long : length words ≡ 8 * length strip = length-word-bytes strip in
+    let all : length (writtenOf strip table) ≡ length image =
+    length-append header (words ++ records) ∙ ap (λ (n : ℕ). length header + n) (length-append words records)
+    ∙ omega (arith, short, long, length-table-bytes table, exact) in
+    sym (run-append header (words ++ records) image 0 ∙ rw short (run-append words records (sets image 0 header) 8 ∙ rw long refl))
+    ∙ whole-run (writtenOf strip table) image all

@@ -1,0 +1,5 @@
+pub mod Below
+pub mod Filled
+pub mod Laid
+pub mod Checked
+pub mod Promised

@@ -1,0 +1,12 @@
+use borrow.Author.Needs.{needs}
+use Rattle.whole.proofs.reading.lent_fits.Statement.{statement}
+use Rattle.whole.proofs.reading.lent_fits.Tie as tie
+
+strip-fits-requires : tie.Need-strip-fits-requires
+strip-fits-requires c κs = search needs
+
+returns : tie.Need-returns
+returns c = simp (c .strip-fits .ensures)
+
+pub lent-fits-spec : {M : Type 1} → statement M
+lent-fits-spec = tie.close (tie.spec strip-fits-requires returns)

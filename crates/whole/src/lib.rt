@@ -1,0 +1,87 @@
+// Whole images: one read into a lent strip and a lent table, and one written from them. All checks come first, so a refusal writes
+// nothing. The loops over the lent table are functions of their own, walked by hand; the work of a turn is done by value.
+mod reading;
+mod writing;
+
+use crate::reading::read_refusal;
+use crate::reading::read_strip;
+use crate::reading::record_in;
+use crate::writing::next_refusal;
+use crate::writing::sizes_refusal;
+use crate::writing::write_front;
+use crate::writing::write_party;
+use party::Record;
+ghost use mathlib.Core.Path.{_≡_};
+ghost use Prim.Native.Nat.{_+_, _*_, _≤_};
+ghost use lib.ListN.{length};
+ghost use lib.Seq.{sets};
+ghost use Rattle.logic.specs.Pick.{pick};
+ghost use Rattle.image.specs.Spelling.{recordsFrom};
+ghost use Rattle.whole.specs.Whole.{allBelow, isValidIn, tableBytes, ReadPromise, WritePromise};
+
+// The records of the image, which stand after its words.
+fn read_table(image: &[u8], words: usize, table: &mut [Record])
+    requires { ⌜ 8 + 8 * words + 32 * length (now table) ≤ length (now image) ⌝ }
+    ensures { λ _. ⌜ now (table .exit) ≡ recordsFrom (now (image .entry)) (8 + 8 * words) (length (now (table .entry))) ⌝ }
+{
+    let mut i: usize = 0;
+    while i < table.len() {
+        table[i] = record_in(image, words, i);
+        i += 1;
+    }
+}
+
+// Read: every word and every record, or the number of a refusal and nothing.
+pub fn read(image: &[u8], strip: &mut [u64], table: &mut [Record]) -> u32
+    ensures { λ n. ⌜ ReadPromise (now (image .entry)) (now (strip .entry)) (now (table .entry)) n (now (strip .exit)) (now (table .exit)) ⌝ }
+{
+    let number = read_refusal(image, strip.len(), table.len());
+    if number != 0 {
+        return number;
+    }
+    read_strip(image, strip);
+    read_table(image, strip.len(), table);
+    0
+}
+
+// 4 where a record of the table is not valid for a strip of so many words.
+fn table_refusal(words: usize, table: &[Record]) -> u32
+    requires { ⌜ (2 ≤ words) × (words ≤ 4096) ⌝ }
+    ensures { λ n. ⌜ n ≡ pick (allBelow (isValidIn words (now (table .entry))) (length (now (table .entry)))) 0 4 ⌝ }
+{
+    let mut number: u32 = 0;
+    let mut i: usize = 0;
+    while i < table.len() {
+        number = next_refusal(number, words, table[i]);
+        i += 1;
+    }
+    number
+}
+
+fn write_table(image: &mut [u8], words: usize, table: &[Record])
+    requires { ⌜ 8 + 8 * words + 32 * length (now table) ≤ length (now image) ⌝ }
+    ensures { λ _. ⌜ now (image .exit) ≡ sets (now (image .entry)) (8 + 8 * words) (tableBytes (now (table .entry))) ⌝ }
+{
+    let mut i: usize = 0;
+    while i < table.len() {
+        write_party(image, words, i, table[i]);
+        i += 1;
+    }
+}
+
+// Write: every byte, or the number of a refusal and nothing. No byte already there is looked at.
+pub fn write(image: &mut [u8], strip: &[u64], table: &[Record]) -> u32
+    ensures { λ n. ⌜ WritePromise (now (image .entry)) (now (strip .entry)) (now (table .entry)) n (now (image .exit)) ⌝ }
+{
+    let number = sizes_refusal(image.len(), strip.len(), table.len());
+    if number != 0 {
+        return number;
+    }
+    let number = table_refusal(strip.len(), table);
+    if number != 0 {
+        return number;
+    }
+    write_front(image, strip, table.len());
+    write_table(image, strip.len(), table);
+    0
+}

@@ -1,0 +1,78 @@
+// What reading a whole image does without its table: the checks, the words, and one record by value.
+use image::gate::read_header;
+use image::record::read_record;
+use little::number_8;
+use party::Record;
+use party::valid::is_valid;
+use step::strip_fits;
+ghost use mathlib.Core.Path.{_≡_};
+ghost use Prim.Native.Nat.{_+_, _*_, _≤_};
+ghost use lib.ListN.{length};
+ghost use Rattle.image.specs.Format.{recordPlace, lengthOf};
+ghost use Rattle.image.specs.Spelling.{wordsFrom, recordAt};
+ghost use Rattle.whole.specs.Whole.{allBelow, lentFits, isSound, readRefusal};
+
+pub fn lent_fits(words: usize, parties: usize) -> bool
+    ensures { λ t. ⌜ t ≡ lentFits words parties ⌝ }
+{
+    strip_fits(words) & ((1 <= parties) & (parties <= 16))
+}
+
+fn is_sound(image: &[u8], max: u16, party: usize) -> bool
+    requires { ⌜ recordPlace max party + 32 ≤ length (now image) ⌝ }
+    ensures { λ t. ⌜ t ≡ isSound (now (image .entry)) max party ⌝ }
+{
+    let at = 8 + 8 * (max as usize + 2) + 32 * party;
+    (number_8(image, at + 24) == 0) & is_valid(max, read_record(image, at))
+}
+
+fn are_sound(image: &[u8], max: u16, parties: u8) -> bool
+    requires { ⌜ lengthOf max parties ≤ length (now image) ⌝ }
+    ensures { λ t. ⌜ t ≡ allBelow (isSound (now (image .entry)) max) parties ⌝ }
+{
+    let mut all = true;
+    let mut i: usize = 0;
+    while i < parties as usize {
+        all = all & is_sound(image, max, i);
+        i += 1;
+    }
+    all
+}
+
+// All checks, before anything is written.
+pub fn read_refusal(image: &[u8], words: usize, parties: usize) -> u32
+    ensures { λ n. ⌜ n ≡ readRefusal (now (image .entry)) words parties ⌝ }
+{
+    if !lent_fits(words, parties) {
+        return 1;
+    }
+    let h = read_header(image);
+    if h.number != 0 {
+        return h.number;
+    }
+    if !((words == h.max as usize + 2) & (parties == h.parties as usize)) {
+        return 1;
+    }
+    if !are_sound(image, h.max, h.parties) {
+        return 4;
+    }
+    0
+}
+
+pub fn read_strip(image: &[u8], strip: &mut [u64])
+    requires { ⌜ 8 + 8 * length (now strip) ≤ length (now image) ⌝ }
+    ensures { λ _. ⌜ now (strip .exit) ≡ wordsFrom (now (image .entry)) 8 (length (now (strip .entry))) ⌝ }
+{
+    let mut i: usize = 0;
+    while i < strip.len() {
+        strip[i] = number_8(image, 8 + 8 * i);
+        i += 1;
+    }
+}
+
+pub fn record_in(image: &[u8], words: usize, party: usize) -> Record
+    requires { ⌜ 8 + 8 * words + 32 * party + 32 ≤ length (now image) ⌝ }
+    ensures { λ r. ⌜ r ≡ recordAt (now (image .entry)) (8 + 8 * words + 32 * party) ⌝ }
+{
+    read_record(image, 8 + 8 * words + 32 * party)
+}

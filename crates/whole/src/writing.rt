@@ -1,0 +1,66 @@
+// What writing a whole image does without its table: the sizes, the header and the words, and one record by value.
+use crate::reading::lent_fits;
+use image::fresh::lay_header;
+use image::record::write_record;
+use little::put_8;
+use logic::pick_u32;
+use party::Record;
+use party::valid::is_valid;
+ghost use mathlib.Core.Path.{_≡_};
+ghost use mathlib.Core.Bool.{not};
+ghost use Prim.Native.Nat.{_+_, _*_, _≤_};
+ghost use lib.ListN.{length};
+ghost use lib.Seq.{sets};
+ghost use Rattle.logic.specs.Pick.{pick};
+ghost use Rattle.party.specs.Valid.{validOf};
+ghost use Rattle.step.specs.Step.{maxOf};
+ghost use Rattle.image.specs.Spelling.{wordBytes};
+ghost use Rattle.image.specs.Calls.{headerBytes};
+ghost use Rattle.whole.specs.Whole.{sizesAgree, partyBytes};
+
+pub fn sizes_refusal(bytes: usize, words: usize, parties: usize) -> u32
+    ensures { λ n. ⌜ n ≡ pick (not (sizesAgree bytes words parties)) 1 0 ⌝ }
+{
+    if !lent_fits(words, parties) {
+        return 1;
+    }
+    pick_u32(!(bytes == 8 + 8 * words + 32 * parties), 1, 0)
+}
+
+// The number so far, and 4 from the first record on that is not valid.
+pub fn next_refusal(number: u32, words: usize, r: Record) -> u32
+    requires { ⌜ (2 ≤ words) × (words ≤ 4096) ⌝ }
+    ensures { λ n. ⌜ n ≡ pick (validOf (maxOf words) r) number 4 ⌝ }
+{
+    pick_u32(is_valid((words - 2) as u16, r), number, 4)
+}
+
+fn write_words(image: &mut [u8], strip: &[u64])
+    requires { ⌜ 8 + 8 * length (now strip) ≤ length (now image) ⌝ }
+    ensures { λ _. ⌜ now (image .exit) ≡ sets (now (image .entry)) 8 (wordBytes (now (strip .entry))) ⌝ }
+{
+    let mut i: usize = 0;
+    while i < strip.len() {
+        put_8(image, 8 + 8 * i, strip[i]);
+        i += 1;
+    }
+}
+
+// The header and the words.
+pub fn write_front(image: &mut [u8], strip: &[u64], parties: usize)
+    requires { ⌜ (8 + 8 * length (now strip) ≤ length (now image)) × ((2 ≤ length (now strip)) × ((length (now strip) ≤ 4096) × (parties ≤ 16))) ⌝ }
+    ensures { λ _. ⌜ now (image .exit) ≡ sets (sets (now (image .entry)) 0 (headerBytes (maxOf (length (now (strip .entry)))) parties)) 8 (wordBytes (now (strip .entry))) ⌝ }
+{
+    lay_header(image, (strip.len() - 2) as u16, parties as u8);
+    write_words(image, strip);
+}
+
+// A party's 32 bytes.
+pub fn write_party(image: &mut [u8], words: usize, party: usize, r: Record)
+    requires { ⌜ 8 + 8 * words + 32 * party + 32 ≤ length (now image) ⌝ }
+    ensures { λ _. ⌜ now (image .exit) ≡ sets (now (image .entry)) (8 + 8 * words + 32 * party) (partyBytes r) ⌝ }
+{
+    let at = 8 + 8 * words + 32 * party;
+    write_record(image, at, r);
+    put_8(image, at + 24, 0);
+}
