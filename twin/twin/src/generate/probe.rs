@@ -3,14 +3,10 @@
 use crate::bytes::to_hex;
 use crate::generate::image::{self, Call};
 use crate::generate::strip;
-use crate::probe::{join_record, join_words};
+use crate::probe::{join_record, join_words, MOST_PARTIES, MOST_WORDS};
 use crate::random::Random;
 use crate::record::Record;
 use crate::word::Word;
-
-/// One more than a strip and a table may have: a probe need not hold more.
-const MOST_WORDS: u64 = 4097;
-const MOST_PARTIES: u64 = 17;
 
 /// A strip or a record: lay, find, measure, start, withdraw or step.
 pub fn strip_line(random: &mut Random) -> String {
