@@ -1,3 +1,4 @@
 pub mod Again
 pub mod Steps
+pub mod Loans
 pub mod Prelude

@@ -15,14 +15,14 @@ pub fn compared(n: u64) -> u32 {
     if n < 4294967295 { n as u32 } else { 4294967295 }
 }
 
-fn fits_record(given: &[u64]) -> bool
+pub fn fits_record(given: &[u64]) -> bool
     requires { ⌜ 7 ≤ length (now given) ⌝ }
 {
     (given[1] < 256) & (given[2] < 256) & (given[3] < 65536) & (given[4] < 4294967296)
 }
 
 // The record that stands after a command's first number. Its fields were compared by fits_record.
-fn record_of(given: &[u64]) -> Record
+pub fn record_of(given: &[u64]) -> Record
     requires { ⌜ 7 ≤ length (now given) ⌝ }
 {
     Record {

@@ -11,11 +11,15 @@
 //                                     packed HEX
 //   image-step PARTY HINT HEX         packed HEX
 //   image-withdraw PARTY HEX          packed HEX
+//   read N PARTIES HEX                number, N WORDS, PARTIES RECORDs
+//   write N WORDS PARTIES RECORDs HEX number HEX
 //
 // Numbers are decimal, below 2^64 (ORDER below 2^32), with blanks between. A RECORD is six numbers: operation, stage, k, v, first and
-// second, which fit its fields. WORDS are the words of a strip, up to 4,097. HEX is the bytes of an image, up to 33,792, two digits each,
-// `-` for none; packed is number + 2^32 × carried order. A line has up to 90,112 bytes. Any other line is answered `?`.
+// second, which fit its fields. WORDS are the words of a strip, up to 4,097; a table has up to 17 RECORDs. HEX is the bytes of an image,
+// up to 33,792, two digits each, `-` for none; packed is number + 2^32 × carried order. `read` is lent N words and PARTIES records, all
+// zero, and `write` the bytes given. A line has up to 163,840 bytes. Any other line is answered `?`.
 mod calls;
+mod held;
 mod images;
 mod say;
 mod text;
@@ -69,6 +73,12 @@ fn find(side: &[u8], given: &[u64]) -> bool {
 
 // Whether a command's last field is the bytes of an image.
 fn has_bytes(name: &[u8]) -> bool {
+    if same(name, b"read") {
+        return true;
+    }
+    if same(name, b"write") {
+        return true;
+    }
     if name.len() < 6 {
         return false;
     }
@@ -87,6 +97,12 @@ fn call_on_bytes(name: &[u8], given: &[u64], bytes: &mut [u8]) -> bool {
     }
     if same(name, b"image-withdraw") {
         return images::withdraw(given, bytes);
+    }
+    if same(name, b"read") {
+        return images::read(given, bytes);
+    }
+    if same(name, b"write") {
+        return images::write(given, bytes);
     }
     false
 }
@@ -159,11 +175,11 @@ fn turn_in(line: &mut [u8], room: &mut [u64], bytes: &mut [u8]) -> bool {
     true
 }
 
-// The longest line: a command, seven numbers and 4,097 words, each a blank and up to 20 digits. The largest image has 33,288 bytes; some
-// more are kept, so that one that is too long can be shown.
+// The longest line writes an image: 4,097 words and 17 records, each number a blank and up to 20 digits, and 33,352 bytes, which is more
+// than the largest image has, so that one that is too long can be shown.
 fn turn() -> bool {
-    let mut line = [0u8; 90112];
-    let mut room = [0u64; 4104];
+    let mut line = [0u8; 163840];
+    let mut room = [0u64; 4224];
     let mut bytes = [0u8; 33792];
     turn_in(&mut line, &mut room, &mut bytes)
 }

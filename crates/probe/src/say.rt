@@ -2,6 +2,7 @@
 use libc::STDOUT_FILENO;
 use party::Answer;
 use party::Answered;
+use party::Record;
 use party::carried;
 use party::number;
 ghost use Prim.Native.Nat.{_<_, _≤_};
@@ -32,18 +33,22 @@ pub fn words(strip: &[u64]) {
     }
 }
 
-// The number, the carried order and the record.
-pub fn answered(got: Answered) {
-    let answer = got.answer;
-    let r = got.rec;
-    first(number(answer) as u64);
-    more(carried(answer) as u64);
+pub fn record(r: Record) {
     more(r.operation as u64);
     more(r.stage as u64);
     more(r.k as u64);
     more(r.v as u64);
     more(r.first);
     more(r.second);
+}
+
+// The number, the carried order and the record.
+pub fn answered(got: Answered) {
+    let answer = got.answer;
+    let r = got.rec;
+    first(number(answer) as u64);
+    more(carried(answer) as u64);
+    record(r);
 }
 
 // The last of a number's digits to base 16.

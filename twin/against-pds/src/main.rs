@@ -67,18 +67,12 @@ fn all(seed: u64, count: usize) -> bool {
     complain(&tally.complaints())
 }
 
-/// The wrong twins that image calls cannot show, with the door that can.
+/// The wrong twins that image calls cannot show, with the doors that can.
 fn left_to_others() -> String {
     let left = FAULTS.iter().filter(|pair| !Door::Images.shows(pair.0));
     left.map(|(fault, name)| {
-        let door = if Door::Schedules.shows(*fault) {
-            "schedules"
-        } else if Door::Strips.shows(*fault) {
-            "strips"
-        } else {
-            "whole"
-        };
-        format!("wrong twin {:24} cannot show here: see {}\n", name, door)
+        let doors = Door::that_show(*fault);
+        format!("wrong twin {:24} cannot show here: see {:?}\n", name, doors)
     })
     .collect()
 }

@@ -5,7 +5,7 @@
 //! some input. A difference keeps the input in a directory.
 
 use crate::fault::{Fault, Twin, FAULTS};
-use crate::generate::probe::{image_line, strip_line, whole_line};
+use crate::generate::probe::{image_line, read_line, strip_line, write_line};
 use crate::generate::schedule::{file, KINDS};
 use crate::listing;
 use crate::random::Random;
@@ -22,8 +22,10 @@ pub enum Door {
     Strips,
     /// The probe's lines of calls on images.
     Images,
-    /// The probe's lines that read and write whole images.
-    Whole,
+    /// The probe's lines that read whole images.
+    Reads,
+    /// The probe's lines that write whole images.
+    Writes,
 }
 
 impl Door {
@@ -32,7 +34,8 @@ impl Door {
             "schedules" => Some(Door::Schedules),
             "strips" => Some(Door::Strips),
             "images" => Some(Door::Images),
-            "whole" => Some(Door::Whole),
+            "reads" => Some(Door::Reads),
+            "writes" => Some(Door::Writes),
             _ => None,
         }
     }
@@ -43,25 +46,31 @@ impl Door {
             Door::Schedules => &[0, 1, 2, 3, 5, 6, 7, 8, 11, 16, 17, 18, 19],
             Door::Strips => &[0, 1, 4, 5, 6, 7, 8, 9, 10, 11, 12, 16, 17, 18, 19],
             Door::Images => &[0, 1, 2, 3, 4, 5, 6, 7, 8, 9, 11, 16, 17, 18, 19],
-            Door::Whole => &[0, 1, 2, 4],
+            Door::Reads => &[0, 1, 2, 4],
+            Door::Writes => &[0, 1, 4],
         }
     }
 
-    /// Whether this mistake can be seen from here at all.
-    pub fn shows(self, fault: Fault) -> bool {
+    /// The doors from which this mistake can be seen.
+    pub fn that_show(fault: Fault) -> &'static [Door] {
+        use Door::*;
         use Fault::*;
         match fault {
-            EmptyAtSecondLook | FullAtAnswer | RefusedEntryCounted | LongFileCut => {
-                self == Door::Schedules
-            }
-            LostSwapNine | DirtyIdleIsSix => self == Door::Strips || self == Door::Images,
-            ElevenAfterThree => self == Door::Schedules || self == Door::Images,
-            VersionNotCompared => self != Door::Strips,
-            SpareBytesUnchecked => self == Door::Images || self == Door::Whole,
-            FindFromFarEnd | ReservedIsOrder => self == Door::Strips,
-            FirstRecordChecked | StripBeforeCheck | SpareBytesLeft => self == Door::Whole,
-            _ => self != Door::Whole,
+            EmptyAtSecondLook | FullAtAnswer | RefusedEntryCounted | LongFileCut => &[Schedules],
+            LostSwapNine | DirtyIdleIsSix => &[Strips, Images],
+            ElevenAfterThree => &[Schedules, Images],
+            VersionNotCompared => &[Schedules, Images, Reads],
+            SpareBytesUnchecked => &[Images, Reads],
+            FindFromFarEnd | ReservedIsOrder => &[Strips],
+            FirstRecordChecked => &[Reads, Writes],
+            StripBeforeCheck => &[Reads],
+            SpareBytesLeft => &[Writes],
+            _ => &[Schedules, Strips, Images],
         }
+    }
+
+    pub fn shows(self, fault: Fault) -> bool {
+        Door::that_show(fault).contains(&self)
     }
 }
 
@@ -190,7 +199,8 @@ impl Program<'_> {
     pub fn lines(&self, door: Door, seed: u64, count: usize) -> Report {
         let make = match door {
             Door::Images => image_line,
-            Door::Whole => whole_line,
+            Door::Reads => read_line,
+            Door::Writes => write_line,
             _ => strip_line,
         };
         let mut report = Report::new(door);

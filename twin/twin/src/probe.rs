@@ -8,8 +8,9 @@ use crate::fault::Twin;
 use crate::record::Record;
 use crate::word::Word;
 
-/// More than any strip or table may have, yet small.
-const MOST_LENT: u64 = 5000;
+/// One more than a strip and a table may have: no more is lent.
+pub const MOST_WORDS: u64 = 4097;
+pub const MOST_PARTIES: u64 = 17;
 
 /// The fields of a line that are not read yet.
 struct Fields<'a> {
@@ -168,7 +169,7 @@ impl Twin {
         let parties: u64 = fields.number()?;
         let image = fields.hex()?;
         fields.end()?;
-        if words > MOST_LENT || parties > MOST_LENT {
+        if words > MOST_WORDS || parties > MOST_PARTIES {
             return None;
         }
         let mut strip = vec![0; words as usize];
@@ -190,6 +191,9 @@ impl Twin {
         let table: Option<Vec<Record>> = (0..parties).map(|_| fields.record()).collect();
         let mut image = fields.hex()?;
         fields.end()?;
+        if words > MOST_WORDS || parties > MOST_PARTIES {
+            return None;
+        }
         let answer = self.image_write(&mut image, &strip?, &table?);
         Some(format!("{} {}", answer.number, to_hex(&image)))
     }

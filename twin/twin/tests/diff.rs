@@ -33,7 +33,8 @@ fn a_right_program_passes() {
     agrees(Door::Schedules, RUN, seed_or(61), 250);
     agrees(Door::Strips, PROBE, seed_or(62), 10_000);
     agrees(Door::Images, PROBE, seed_or(63), 10_000);
-    agrees(Door::Whole, PROBE, seed_or(67), 4000);
+    agrees(Door::Reads, PROBE, seed_or(67), 2000);
+    agrees(Door::Writes, PROBE, seed_or(68), 2000);
 }
 
 /// A program with a mistake does not pass; one mistake for each door is enough
@@ -43,7 +44,8 @@ fn a_wrong_program_does_not() {
     for (door, program, fault, count) in [
         (Door::Strips, PROBE, "find-from-far-end", 2000),
         (Door::Images, PROBE, "spare-bytes-unchecked", 2000),
-        (Door::Whole, PROBE, "first-record-checked", 2000),
+        (Door::Reads, PROBE, "first-record-checked", 2000),
+        (Door::Writes, PROBE, "spare-bytes-left", 2000),
         (Door::Schedules, RUN, "full-at-answer", 10),
     ] {
         let line = format!("{} --fault {}", program, fault);

@@ -5,7 +5,7 @@
 use twin::diff::Door;
 use twin::fault::FAULTS;
 use twin::generate::image::{any, call};
-use twin::generate::probe::{strip_line, whole_line};
+use twin::generate::probe::{read_line, strip_line, write_line};
 use twin::generate::schedule::{file, KINDS};
 use twin::random::{seed_or, Random};
 use twin::{Fault, Twin};
@@ -47,12 +47,7 @@ fn show_all(seed: u64) -> Vec<Shown> {
             shown[i].calls += usize::from(play(Twin::wrong(*fault)) != right);
         }
     }
-    for number in 0..2 * LINES {
-        let make = if number < LINES {
-            strip_line
-        } else {
-            whole_line
-        };
+    for make in [strip_line, read_line, write_line].repeat(LINES) {
         let line = make(&mut random);
         let right = Twin::faithful().probe(&line);
         for (i, (fault, _)) in FAULTS.iter().enumerate() {
@@ -70,7 +65,7 @@ fn each_wrong_twin_shows() {
         seed,
         4 * FILES,
         CALLS,
-        2 * LINES
+        3 * LINES
     );
     let shown = show_all(seed);
     for ((fault, name), shown) in FAULTS.iter().zip(&shown) {
@@ -78,8 +73,8 @@ fn each_wrong_twin_shows() {
             "{:24} {:5} files {:5} calls {:5} lines",
             name, shown.files, shown.calls, shown.lines
         );
-        let at_the_probe = Door::Strips.shows(*fault) || Door::Whole.shows(*fault);
-        if at_the_probe {
+        let at_the_probe = [Door::Strips, Door::Reads, Door::Writes];
+        if at_the_probe.iter().any(|door| door.shows(*fault)) {
             assert!(shown.lines > 0, "{} does not show", name);
         }
         if Door::Images.shows(*fault) {

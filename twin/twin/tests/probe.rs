@@ -3,7 +3,7 @@
 #![deny(warnings)]
 
 use std::collections::BTreeMap;
-use twin::generate::probe::{image_line, strip_line, whole_line};
+use twin::generate::probe::{image_line, read_line, strip_line, write_line};
 use twin::random::{seed_or, Random};
 use twin::Twin;
 
@@ -76,7 +76,10 @@ fn every_number_occurs_at_the_image_door() {
 
 #[test]
 fn every_number_occurs_with_whole_images() {
-    let numbers = count(whole_line, seed_or(43), 4000);
+    let numbers = count(read_line, seed_or(43), 4000);
     let seen: Vec<u32> = numbers.keys().copied().collect();
     assert_eq!(seen, [0, 1, 2, 4]);
+    let numbers = count(write_line, seed_or(44), 4000);
+    let seen: Vec<u32> = numbers.keys().copied().collect();
+    assert_eq!(seen, [0, 1, 4]);
 }

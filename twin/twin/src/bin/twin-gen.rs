@@ -1,18 +1,18 @@
 //! `twin-gen KIND SEED COUNT DIR`: writes COUNT random schedule files of the KIND
 //! sensible, contended, wild or damaged to DIR, as KIND-SEED-NUMBER.pdo.
 //!
-//! The kinds probe-strips, probe-images and probe-whole write one file
-//! KIND-SEED.txt with COUNT lines for the probe. The same arguments give the same bytes.
+//! The kinds probe-strips, probe-images, probe-reads and probe-writes write one
+//! file KIND-SEED.txt with COUNT lines for the probe. The same arguments give the same bytes.
 #![forbid(unsafe_code)]
 #![deny(warnings)]
 
 use std::path::Path;
-use twin::generate::probe::{image_line, strip_line, whole_line};
+use twin::generate::probe::{image_line, read_line, strip_line, write_line};
 use twin::generate::schedule::{file, Kind};
 use twin::random::Random;
 
 const USE: &str = "use: twin-gen KIND SEED COUNT DIR, with KIND one of \
-    sensible, contended, wild, damaged, probe-strips, probe-images, probe-whole";
+    sensible, contended, wild, damaged, probe-strips, probe-images, probe-reads, probe-writes";
 
 fn main() {
     let arguments: Vec<String> = std::env::args().skip(1).collect();
@@ -30,7 +30,8 @@ fn main() {
     match kind {
         "probe-strips" => lines(&mut random, count, strip_line, &text),
         "probe-images" => lines(&mut random, count, image_line, &text),
-        "probe-whole" => lines(&mut random, count, whole_line, &text),
+        "probe-reads" => lines(&mut random, count, read_line, &text),
+        "probe-writes" => lines(&mut random, count, write_line, &text),
         _ => files(&mut random, kind, seed, count, directory),
     }
 }

@@ -24,8 +24,9 @@
 //! 32, a record's fields 8, 8, 16, 32, 64, 64. HEX is the bytes of an image, two
 //! digits each, `-` for none. WORDS given to lay are what stands there before: a
 //! refusal leaves them. The packed answer is number + 2^32 × carried. `read` is
-//! lent N words and PARTIES records, all zero, each at most 5,000, and prints
-//! them afterwards; `write` is lent the bytes given. Any other line is answered
+//! lent N words and PARTIES records, all zero, and prints them afterwards;
+//! `write` is lent the bytes given. N is at most 4,097 and PARTIES at most 17
+//! there, one more than a strip and a table may have. Any other line is answered
 //! `?`.
 #![forbid(unsafe_code)]
 #![deny(warnings)]

@@ -3,7 +3,7 @@
 use crate::bytes::to_hex;
 use crate::generate::image::{self, Call};
 use crate::generate::strip;
-use crate::probe::{join_record, join_words};
+use crate::probe::{join_record, join_words, MOST_PARTIES, MOST_WORDS};
 use crate::random::Random;
 use crate::record::Record;
 use crate::word::Word;
@@ -35,16 +35,6 @@ pub fn strip_line(random: &mut Random) -> String {
                 join_words(&words)
             )
         }
-    }
-}
-
-/// A whole image: reading or writing.
-pub fn whole_line(random: &mut Random) -> String {
-    if random.percent(50) {
-        let image = image::any(random);
-        read_line(random, &image)
-    } else {
-        write_line(random)
     }
 }
 
@@ -130,26 +120,41 @@ fn start_line(random: &mut Random, words: &[Word]) -> String {
     )
 }
 
-/// The lent lengths mostly agree with the header.
-fn read_line(random: &mut Random, image: &[u8]) -> String {
-    let parties = u64::from(image.get(5).copied().unwrap_or(1));
-    let max = if image.len() < 8 {
-        1
-    } else {
-        u64::from(image[6]) + 256 * u64::from(image[7])
-    };
-    let words = (max + 2).min(4097);
-    let (words, parties) = match random.below(16) {
-        0 => (words - 1, parties),
-        1 => (words, parties + 1),
-        2 => (random.below(4), random.pick(&[0, 1, 16, 17])),
-        _ => (words, parties),
-    };
-    format!("read {} {} {}", words, parties, to_hex(image))
+/// A whole image is read. The lent lengths mostly agree with the header; where
+/// no lengths could, they are mostly sound, so that the header is looked at.
+pub fn read_line(random: &mut Random) -> String {
+    let image = image::any(random);
+    let mut parties = u64::from(image.get(5).copied().unwrap_or(1));
+    let mut words = 3;
+    if image.len() >= 8 {
+        words = u64::from(image[6]) + 256 * u64::from(image[7]) + 2;
+    }
+    if !(1..=16).contains(&parties) && random.percent(80) {
+        parties = random.between(1, 16);
+    }
+    if !(3..=4096).contains(&words) && random.percent(80) {
+        words = random.between(3, 9);
+    }
+    match random.below(16) {
+        0 => words -= 1,
+        1 => parties += 1,
+        2 => {
+            words = random.below(4);
+            parties = random.pick(&[0, 1, 16, 17]);
+        }
+        _ => (),
+    }
+    format!(
+        "read {} {} {}",
+        words.min(MOST_WORDS),
+        parties.min(MOST_PARTIES),
+        to_hex(&image)
+    )
 }
 
-/// A strip, a table and bytes of mostly fitting lengths; no byte counts.
-fn write_line(random: &mut Random) -> String {
+/// A whole image is written, from a strip, a table and bytes of mostly fitting
+/// lengths; what the bytes were does not count.
+pub fn write_line(random: &mut Random) -> String {
     let words = strip_to_write(random);
     let table = table_to_write(random, &words);
     let mut length = 8 + 8 * words.len() + 32 * table.len();
