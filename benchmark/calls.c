@@ -33,7 +33,7 @@ static const library libraries[2] = {
     {"base", base_lay, base_start, base_step, base_withdraw},
 };
 
-enum { PARTIES = 4, ME = 2, OTHER = 3, ROOM = 8 + 8 * (PDS_MOST_MAX + 2) + 32 * PARTIES, ROUNDS = 101, TIMES = 1000 };
+enum { PARTIES = 4, ME = 2, OTHER = 3, ROOM = 8 + 8 * (PDS_MOST_MAX + 2) + 32 * PARTIES, ROUNDS = 301, TIMES = 1000 };
 
 typedef enum { LAY, START, STEP, WITHDRAW } kind;
 

@@ -119,7 +119,7 @@ END {
     table("count")
     print "\n## Time\n"
     print "Ratio, then nanoseconds, proved / ordinary: what one call adds to a loop that puts back the bytes it changed, " \
-        "the least of 101 rounds in which the two take turns."
+        "the least of 301 rounds in which the two take turns."
     table("time")
     print "\n## Cortex-M\n"
     print "Bytes of code and of stack for `thumbv7em-none-eabi` at -Os, by the compiler's own account. The stack of memset, which " \
