@@ -118,26 +118,35 @@ module _ (image : List ℕ) (party : ℕ) (found : Named) (are : AreBytes image)
       (withdraw-done image party are (clear image withdrawing found are read zero) (sym own-withdraw ∙ none)
       ∙ ap (λ (l : List ℕ). record { answer = GoesOn; image = l }) (sym (e ∙ rw at refl)))
 
-module _ (image : List ℕ) (party hint : ℕ) (found : Named) (are : AreBytes image)
-    (read : NamedRead image false party found) (zero : found .number ≡ 0)
-    (r : Record) (r-is : r ≡ recordAt image (found .at)) (number : ℕ) (number-is : number ≡ stepOwn (found .max) r hint) where
+-- what a step has read once its record's own checks have a number
+pub record Weighed (image : List ℕ) (party hint : ℕ) (found : Named) (r : Record) (number : ℕ) : Type 0 where
+  pub are : AreBytes image
+  pub read : NamedRead image false party found
+  pub zero : found .number ≡ 0
+  pub record-is : r ≡ recordAt image (found .at)
+  pub number-is : number ≡ stepOwn (found .max) r hint
+
+module _ (image : List ℕ) (party hint : ℕ) (found : Named) (r : Record) (number : ℕ) (w : Weighed image party hint found r number) where
   abbrev stepping : Call
   stepping = Call.step party hint
 
+  abbrev are : AreBytes image
+  are = w .are
+
   abbrev spot : found .at ≡ placeIn image stepping
-  spot = at-is image stepping found are read zero
+  spot = at-is image stepping found are (w .read) (w .zero)
 
   abbrev named : namedRefusal image false party ≡ 0
-  named = clear image stepping found are read zero
+  named = clear image stepping found are (w .read) (w .zero)
 
   abbrev wide : found .max ≡ maxAt image
-  wide = max-is image stepping found are read zero
+  wide = max-is image stepping found are (w .read) (w .zero)
 
   r-in : r ≡ recordIn image stepping
-  r-in = r-is ∙ rw spot refl
+  r-in = w .record-is ∙ rw spot refl
 
   own-step : number ≡ stepOwn (maxAt image) (recordIn image stepping) hint
-  own-step = number-is ∙ rw (r-in, wide) refl
+  own-step = w .number-is ∙ rw (r-in, wide) refl
 
   pub keeps-step-refused : (number ≡ 0 → ⊥) → ImagePromise (imageOf image stepping) (Refused number) image
   keeps-step-refused some =

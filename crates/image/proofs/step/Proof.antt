@@ -9,7 +9,7 @@ use Rattle.step.specs.Call.{Call}
 use Rattle.step.specs.declared.Line.{Line}
 use Rattle.step.proofs.Cleared.{placeOf}
 use Rattle.image.specs.Format.{wordPlace}
-use Rattle.image.proofs.Promised.{keeps-stopped, room, keeps-step-refused, hint-fits-k, line-room, keeps-look, keeps-swap}
+use Rattle.image.proofs.Promised.{keeps-stopped, room, Weighed, keeps-step-refused, hint-fits-k, line-room, keeps-look, keeps-swap}
 use borrow.Author.Needs.{needs}
 use Rattle.image.proofs.step.Statement.{statement}
 use Rattle.image.proofs.step.Tie as tie
@@ -21,31 +21,33 @@ image-of c = now (c .before .before .before .args .image)
 bytes-of : (c : tie.After-read-named) → AreBytes (image-of c)
 bytes-of c i = omega (arith, c .before .before .slice-known .given i)
 
-abbrev found : tie.Else2 → tie.After-read-named
-found c = c .before .before .before .before .before .before
+-- the record's own checks have a number
+abbrev found : tie.After-step-own → tie.After-read-named
+found c = c .before .before .before .before .before
 
--- past the checks: the hint fits, and the word of the line that was found is inside the image
-hint-fits : (c : tie.Else2) → c .before .before .read-record .result .stage ≡ 1 → found c .before .before .before .args .hint < 65536
-hint-fits c =
-    let own = c .before in
-    let r = own .before in
-    let f = found c in
-    hint-fits-k _ _ _ _ (bytes-of f) (f .read-named .ensures) (r .before .before .if1 .left) _ (r .read-record .ensures) _ (own .step-own .ensures) (c .if2 .left)
+weighed : (c : tie.After-step-own)
+    → Weighed (image-of (found c)) (found c .before .before .before .args .party) (found c .before .before .before .args .hint)
+    (found c .read-named .result) (c .before .read-record .result) (c .step-own .result)
+weighed c =
+    record {
+      are = bytes-of (found c);
+      read = found c .read-named .ensures;
+      zero = c .before .before .before .if1 .left;
+      record-is = c .before .read-record .ensures;
+      number-is = c .step-own .ensures;
+    }
 
-roomy : (c : tie.Else2) → found c .read-named .result .at + 32 ≤ length (image-of (found c))
+-- past the checks: the record is inside the image, and so is the word of the line that was found
+roomy : (c : tie.Else2) → found (c .before) .read-named .result .at + 32 ≤ length (image-of (found (c .before)))
 roomy c =
-    let f = found c in
+    let f = found (c .before) in
     room (image-of f) (Call.step _ (f .before .before .before .args .hint)) (f .read-named .result) (bytes-of f) (f .read-named .ensures) (c .before .before .before .before .if1 .left)
 
 inside-at : (c : tie.After-line) (l : Line) → c .line .result ≡ l
-    → wordPlace (placeOf l) + 8 ≤ length (image-of (found (c .before .before)))
+    → wordPlace (placeOf l) + 8 ≤ length (image-of (found (c .before .before .before)))
 inside-at c l e =
     let past = c .before .before in
-    let own = past .before in
-    let r = own .before in
-    let f = found past in
-    line-room _ _ _ _ (bytes-of f) (f .read-named .ensures) (r .before .before .if1 .left) _ (r .read-record .ensures) _ (own .step-own .ensures) (past .if2 .left) _ (c .before .aim .ensures) l
-    (sym (c .line .ensures) ∙ e)
+    line-room _ _ _ _ _ _ (weighed (past .before)) (past .if2 .left) _ (c .before .aim .ensures) l (sym (c .line .ensures) ∙ e)
 
 read-named-requires : tie.Need-read-named-requires
 read-named-requires c κs = search needs
@@ -70,14 +72,10 @@ same-length-2 : tie.Need-same-length-2
 same-length-2 c = search needs
 
 returns-2 : tie.Need-returns-2
-returns-2 c =
-    let own = c .before in
-    let r = own .before in
-    let f = r .before .before .before .before in
-    keeps-step-refused _ _ _ _ (bytes-of f) (f .read-named .ensures) (r .before .before .if1 .left) _ (r .read-record .ensures) _ (own .step-own .ensures) (c .if2 .taken)
+returns-2 c = keeps-step-refused _ _ _ _ _ _ (weighed (c .before)) (c .if2 .taken)
 
 aim-requires : tie.Need-aim-requires
-aim-requires c κs = hint-fits c
+aim-requires c κs = hint-fits-k _ _ _ _ _ _ (weighed (c .before)) (c .if2 .left)
 
 line-requires : tie.Need-line-requires
 line-requires c κs = search needs
@@ -109,10 +107,7 @@ returns-3 c =
     let at = made .before .before .before in
     let met = at .before .before in
     let past = met .before .before in
-    let own = past .before in
-    let r = own .before in
-    let f = found past in
-    keeps-look _ _ _ _ (bytes-of f) (f .read-named .ensures) (r .before .before .if1 .left) _ (r .read-record .ensures) _ (own .step-own .ensures) (past .if2 .left) _ (met .before .aim .ensures) _ _
+    keeps-look _ _ _ _ _ _ (weighed (past .before)) (past .if2 .left) _ (met .before .aim .ensures) _ _
     (sym (met .line .ensures) ∙ at .place .given .1) (made .make-look .ensures)
 
 same-length-4 : tie.Need-same-length-4
@@ -124,10 +119,7 @@ returns-4 c =
     let at = made .before .before .before in
     let met = at .before .before in
     let past = met .before .before in
-    let own = past .before in
-    let r = own .before in
-    let f = found past in
-    keeps-swap _ _ _ _ (bytes-of f) (f .read-named .ensures) (r .before .before .if1 .left) _ (r .read-record .ensures) _ (own .step-own .ensures) (past .if2 .left) _ (met .before .aim .ensures) _ _ _ _
+    keeps-swap _ _ _ _ _ _ (weighed (past .before)) (past .if2 .left) _ (met .before .aim .ensures) _ _ _ _
     (sym (met .line .ensures) ∙ at .place2 .given .1) (made .make-swap .ensures)
 
 pub step-spec : {M : Type 1} → statement M
