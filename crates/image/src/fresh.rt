@@ -1,5 +1,5 @@
 // A fresh image, laid part by part.
-// Private to the crate, whose calls have checked the header: these ask that the bytes lie inside.
+// For the calls of this crate and of whole images, which have checked the lengths: these ask that the bytes lie inside.
 use crate::gate::sizes_fit;
 use little::put_2;
 use little::put_8;

@@ -1,5 +1,5 @@
 // A record in the bytes of an image.
-// Private to the crate, whose calls have checked the header: these ask that the bytes lie inside.
+// For the calls of this crate and of whole images, which have checked the lengths: these ask that the bytes lie inside.
 use little::number_2;
 use little::number_4;
 use little::number_8;

@@ -1,6 +1,6 @@
 -- A test that holds of every number below a count.
 use Prim.Native.Nat.{ℕ, zero, suc, _+_, _<_, _^_}
-use mathlib.Core.Path.{_≡_, refl, sym, ap}
+use mathlib.Core.Path.{_≡_, refl, sym}
 use mathlib.Core.Bool.{Bool, true, false, _&&_}
 use lib.Dec.{eqb, lit<}
 use borrow.Author.Tests.{eqb-true, eqb-false}

@@ -1,21 +1,19 @@
 -- The rungs of the checks of reading, and what is known where they pass; and those of writing.
 use Prim.Native.Nat.{ℕ, _+_, _*_, _≤_}
-use mathlib.Core.Path.{_≡_, refl, sym, _∙_, ap}
-use mathlib.Core.Bool.{Bool, true, false, not, _&&_}
+use mathlib.Core.Path.{_≡_, refl}
+use mathlib.Core.Bool.{true, false, not}
 use mathlib.Core.List.{List}
 use lib.ListN.{length}
 use lib.Dec.{eqb, leb}
 use borrow.Author.Tests.{eqb-true, leb-true, not-false, ne-eqb}
 use native.Mathlib.Omega.{arith}
-use Rattle.logic.specs.Pick.{pick}
 use Rattle.logic.proofs.Bools.{both, passed}
-use Rattle.party.specs.declared.Record.{Record}
 use Rattle.step.specs.Step.{stripFits, maxOf}
 use Rattle.step.specs.Call.{tableFits}
 use Rattle.image.specs.Format.{lengthOf, maxAt, partiesAt, headerRefusal}
 use Rattle.image.proofs.Accepted.{accepted}
 use Rattle.image.proofs.Gated.{passed-number}
-use Rattle.whole.specs.Whole.{allBelow, lentFits, isSound, agrees, readRefusal, sizesAgree, isValidIn, writeRefusal}
+use Rattle.whole.specs.Whole.{allBelow, lentFits, isSound, agrees, readRefusal, sizesAgree}
 
 -- a strip and a table that may be lent
 pub record Lent (words parties : ℕ) : Type 0 where

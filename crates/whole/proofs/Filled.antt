@@ -9,9 +9,8 @@ use native.Mathlib.Numerals.{add-one}
 use native.Mathlib.Omega.{arith}
 use Rattle.party.specs.Record.{idle}
 use Rattle.party.specs.declared.Record.{Record}
-use Rattle.little.specs.Bytes.{numberAt}
 use Rattle.little.proofs.Runs.{whole-run}
-use Rattle.image.specs.Spelling.{wordsFrom, recordsFrom, recordAt}
+use Rattle.image.specs.Spelling.{wordsFrom, recordsFrom}
 use Rattle.image.proofs.Parts.{Part, partsFrom, length-parts, part-at}
 use Rattle.image.proofs.Words.{wordPart, words-are-parts}
 use Rattle.image.proofs.Records.{recordPart, records-are-parts}

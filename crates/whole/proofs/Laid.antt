@@ -1,5 +1,5 @@
 -- A table laid in bytes, record by record, and a whole image, part by part.
-use Prim.Native.Nat.{ℕ, zero, suc, _+_, _*_, _≤_, _<_}
+use Prim.Native.Nat.{ℕ, zero, suc, _+_, _*_, _<_}
 use mathlib.Core.Path.{_≡_, refl, sym, _∙_, ap}
 use mathlib.Core.List.{List, [], _∷_, _++_, append-nil}
 use lib.ListN.{length, getD, take, length-append}
@@ -32,7 +32,7 @@ length-table-bytes (r ∷ table) =
 pub party-laid : (l : List ℕ) (at : ℕ) (r : Record) → sets (sets l at (recordBytes r)) (at + 24) (bytesOf 8 0) ≡ sets l at (partyBytes r)
 party-laid l at r = sym (run-append (recordBytes r) (bytesOf 8 0) l at ∙ rw (length-record r) refl)
 
-first-laid : (l : List ℕ) (at : ℕ) (r : Record) (table : List Record)
+pub first-laid : (l : List ℕ) (at : ℕ) (r : Record) (table : List Record)
     → sets l at (tableBytes (r ∷ table)) ≡ sets (sets l at (partyBytes r)) (at + 32) (tableBytes table)
 unfolding tableBytes
 first-laid l at r table = run-append (partyBytes r) (tableBytes table) l at ∙ rw (length-party r) refl
@@ -55,6 +55,13 @@ pub one-record-more : (image : List ℕ) (at : ℕ) (table : List Record) (i : �
 one-record-more image at table i h = rw (add-one i) (one-more-laid table image at i h)
 
 -- the header, the words and the records over all of the bytes
+pub length-written : (strip : List ℕ) (table : List Record) → length (writtenOf strip table) ≡ 8 + 8 * length strip + 32 * length table
+length-written strip table =
+    let header = headerBytes (maxOf (length strip)) (length table) in
+    length-append header (wordBytes strip ++ tableBytes table)
+    ∙ ap (λ (n : ℕ). length header + n) (length-append (wordBytes strip) (tableBytes table))
+    ∙ omega (arith, length-header (maxOf (length strip)) (length table), length-word-bytes strip, length-table-bytes table)
+
 pub written-laid : (image strip : List ℕ) (table : List Record) → length image ≡ 8 + 8 * length strip + 32 * length table
     → sets (sets (sets image 0 (headerBytes (maxOf (length strip)) (length table))) 8 (wordBytes strip)) (8 + 8 * length strip) (tableBytes table)
     ≡ writtenOf strip table
@@ -64,8 +71,5 @@ written-laid image strip table exact =
     let records = tableBytes table in
     let short : length header ≡ 8 = length-header (maxOf (length strip)) (length table) in
     let long : length words ≡ 8 * length strip = length-word-bytes strip in
-    let all : length (writtenOf strip table) ≡ length image =
-    length-append header (words ++ records) ∙ ap (λ (n : ℕ). length header + n) (length-append words records)
-    ∙ omega (arith, short, long, length-table-bytes table, exact) in
     sym (run-append header (words ++ records) image 0 ∙ rw short (run-append words records (sets image 0 header) 8 ∙ rw long refl))
-    ∙ whole-run (writtenOf strip table) image all
+    ∙ whole-run (writtenOf strip table) image (length-written strip table ∙ sym exact)

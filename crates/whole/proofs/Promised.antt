@@ -5,13 +5,12 @@ use mathlib.Core.Bool.{Bool, true, false, not}
 use mathlib.Core.List.{List}
 use lib.ListN.{length}
 use lib.Seq.{sets}
-use lib.Dec.{eqb}
 use borrow.Author.Tests.{eq-eqb, ne-eqb, not-false}
 use native.Mathlib.Omega.{arith}
 use Rattle.logic.specs.Pick.{pick}
 use Rattle.logic.proofs.Bools.{passed}
 use Rattle.party.specs.declared.Record.{Record}
-use Rattle.image.specs.Format.{recordPlace, maxAt, partiesAt}
+use Rattle.image.specs.Format.{recordPlace, maxAt}
 use Rattle.step.specs.Step.{maxOf}
 use Rattle.image.specs.Spelling.{wordsFrom, recordsFrom, wordBytes}
 use Rattle.image.specs.Calls.{headerBytes}

@@ -1,4 +1,5 @@
 // What reading a whole image does without its table: the checks, the words, and one record by value.
+// Private to the crate, whose calls have checked the lengths: these ask that the bytes lie inside.
 use image::gate::read_header;
 use image::record::read_record;
 use little::number_8;

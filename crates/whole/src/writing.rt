@@ -1,4 +1,5 @@
 // What writing a whole image does without its table: the sizes, the header and the words, and one record by value.
+// Private to the crate, whose calls have checked the lengths: these ask that the bytes lie inside.
 use crate::reading::lent_fits;
 use image::fresh::lay_header;
 use image::record::write_record;

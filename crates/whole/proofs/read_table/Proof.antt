@@ -2,15 +2,14 @@
 -- record in its place in the table's borrow.
 use Prim.Native.Nat.{ℕ, _+_, _*_, _≤_, _<_, _^_}
 use native.Mathlib.Omega.{arith}
-use lib.ListN.{length, getD, set, length-set}
-use denote.Struct.Laws as LL
-use Rattle.lent.proofs.Prelude.{_≡_, refl, sym, ap, subst, List, [], _∷_, not, zero-le, add-one-le, add-one-dec, Holds, ltb, lit<, ltb→lt, nltb→le, URA, fullShare, Ty, named, w64, tyPtr, Val, vunit, vint, vptr, SProp, ent, sep, id⊢}
+use lib.ListN.{length, set}
+use Rattle.lent.proofs.Prelude.{_≡_, refl, sym, subst, List, [], _∷_, zero-le, Holds, ltb, lit<, nltb→le, URA, fullShare, Ty, named, w64, tyPtr, Val, vunit, vint, vptr, SProp, ent, sep, id⊢}
 use Rattle.lent.proofs.Prelude.{GName, Lft, Share, ftrue, flft, fobs, fbor, fat, froom, fdies, Memory, Routine, Heap, Out, Env, Calls, Loops, Wp, WpFn, Tables, atReturn, afterSeq, afterBlock, afterTurn, Atoms, sem, Fun, givenOf, tables, tablesOf}
 use Rattle.lent.proofs.Prelude.{Given, Item, ‵, raw, ⋆, runs, anyQ, atRet, Sq, _⊛_, _$_, _∵_, !, qed, by, move, keep, drop, use1, use2, split, join, rewrite, fsplit, fjoin, feqI, suffices, frame, done}
 use Rattle.lent.proofs.Prelude.{look, store, store-raw, init, stop, hop, fld, from, load, lit, of-opd, bin, unit-lit, and-then, no-more, assigns, assigns-last, first, blocks, exec, Below, again, loops, forget, land, returns, enter, alloc1, alloc0, params1, pass1, pass0, free0, whole, sub, look-in}
-use Rattle.lent.proofs.Prelude.{FmC, fmOf, WpFn-mono, owns, Is, uint-vals, uint-tells, u8, usize, RefT, MutSlice, ShrSlice, shr-slice-tells, sliceVal, slice-vals, mut-slice-tells, Room, Held, heres, codedHoleys, place-is, plain, shrSliceOf, heard, nothing}
+use Rattle.lent.proofs.Prelude.{fmOf, WpFn-mono, owns, uint-vals, uint-tells, u8, usize, RefT, MutSlice, ShrSlice, shr-slice-tells, sliceVal, slice-vals, mut-slice-tells, Room, Held, heres, codedHoleys, place-is, plain, shrSliceOf, heard, nothing}
 use Rattle.lent.proofs.Prelude.{onEntry, Meets, tripleOf, Contract, Triple, calls-at, entered, cited, says, needs, Stays, stay-dropped, stay-slice, stay-none, walkOf, goes-none, goes-dropped, goes-slice, ends-at, walked, walk-meets, yes, scaled-fits}
-use Rattle.lent.proofs.Steps.{Upto, Nearer, nearer-wf, localTy, goes-on, shares-on, opens-element, closes-element, after-call, frees-local, frees-room, with-usize, keeps-slice, result-struct}
+use Rattle.lent.proofs.Steps.{Upto, Nearer, nearer-wf, is-below, turn-fits, next-turn, is-nearer, localTy, goes-on, shares-on, opens-element, closes-element, after-call, frees-local, frees-room, with-usize, keeps-slice, result-struct}
 use Rattle.party.specs.declared.Record.{Record}
 use Rattle.party.specs.Record.{idle}
 use Rattle.party.proofs.Record as R
@@ -119,7 +118,7 @@ module _ {M : Type 1} (𝓤 : URA M) (H : Heap 𝓤) (A : Atoms 𝓤) (W : Given
           assigns ! (of-opd ! (load ! (from ! (fld ! refl (stop !))) (look-in ! 15 (sub ! 1 refl (whole !))))) (from ! (stop !)) (init ! 11 refl (tt, record { fits = room .0 })) $
           assigns ! (bin ! (load ! (from ! (stop !)) (look ! 13 refl)) (load ! (from ! (stop !)) (look ! 11 refl)) tt) (from ! (stop !)) (init ! 9 refl (tt, tt)) $
           goes-on ! (load ! (from ! (stop !)) (look ! 9 refl))
-          (λ less. shares-on ! (named 0) κ₁ u8 xs (image-val ∷ []) $ move ! (0 ∷ 2 ∷ []) $ use2 W (raw (RecordIn 𝓤 H A at-mem run .pre (to-record (i .0)))) (goes-record (i .0) (fits i) (inside less)) $
+          (λ less. shares-on ! (named 0) κ₁ u8 xs (image-val ∷ []) $ move ! (0 ∷ 2 ∷ []) $ use2 W (raw (RecordIn 𝓤 H A at-mem run .pre (to-record (i .0)))) (goes-record (i .0) (turn-fits (length ts) (room .0) i) (inside less)) $
           -- [the call; the image; obs; …; _8; …], with _i at 5 + 2 · (8 − i)
           calls-at ! (fmOf 𝓤 H (W .laws) 𝓣) (RecordIn 𝓤 H A at-mem run) known (to-record (i .0)) (and-then ! (load ! (from ! (stop !)) (look ! 19 refl)) (and-then ! (load ! (from ! (stop !)) (look ! 17 refl)) (and-then ! (load ! (from ! (stop !)) (look ! 13 refl)) (no-more !)))) (λ w.
           after-call ! tt record-in.ended (record-in.clauses 𝓤 H A at-mem run) (to-record (i .0)) w (λ r ws.
@@ -135,30 +134,24 @@ module _ {M : Type 1} (𝓤 : URA M) (H : Heap 𝓤) (A : Atoms 𝓤) (W : Given
           assigns ! (of-opd ! (load ! (from ! (stop !)) (look ! 9 refl))) (from ! (hop ! (look ! 7 refl) (stop !))) (store-raw ! 0 refl (record-typed 𝓤 H A W r is)) $
           closes-element ! tt R.the-type R′.the-laws R′.the-plain (filled (i .0)) (i .0) r is b o (within less) $
           move ! (4 ∷ 3 ∷ 0 ∷ 1 ∷ 2 ∷ []) $
-          assigns-last ! (bin ! (load ! (from ! (stop !)) (look ! 13 refl)) (lit ! tt) (record { fits = fits (next less) })) (from ! (stop !)) (store ! 13 refl (tt, record { fits = fits (next less) })) $
+          assigns-last ! (bin ! (load ! (from ! (stop !)) (look ! 13 refl)) (lit ! tt) (record { fits = turn-fits (length ts) (room .0) (next-turn (length ts) i less) })) (from ! (stop !)) (store ! 13 refl (tt, record { fits = turn-fits (length ts) (room .0) (next-turn (length ts) i less) })) $
           forget ! 5 refl $ forget ! 7 refl $ forget ! 9 refl $ forget ! 11 refl $
           rewrite ! 2 (λ (rs : List Record). ‵ (fobs γ (codedHoleys R.the-row .code (heres R.the-row rs)))) (one-more less r e) refl $
           rewrite ! 3 (λ (rs : List Record). ‵ (fbor κ (Held R.the-row (length rs) b o γ))) (one-more less r e) refl $
-          again ! (Nearer (length ts)) At i (next less) (add-one-dec (length ts) (i .0) (below less))))))))
+          again ! (Nearer (length ts)) At i (next-turn (length ts) i less) (is-nearer (length ts) i less)))))))
           (λ over. exec ! C Λ En lowered.t-3 (atRet En Post) $
           assigns ! (of-opd ! (unit-lit !)) (from ! (stop !)) (init ! 21 refl (tt, tt)) $
           returns ! (look ! 21 refl) $ frees-local ! 21 refl refl $ frees-local ! 19 refl refl $ frees-local ! 17 refl refl $ frees-local ! 15 refl refl $ frees-local ! 13 refl refl $ frees-local ! 11 refl refl $ frees-local ! 9 refl refl $ frees-room ! 7 refl refl $ frees-room ! 5 refl refl $ free0 ! $
           keep ! (2 ∷ 3 ∷ 4 ∷ 1 ∷ []) $ by ! (exits (filled (i .0)) (all-records-read ys (8 + 8 * n) ts (i .0) (nltb→le (i .0) (length ts) over)) (filled-length (i .0))))
         where
-          fits : (j : Upto (length ts)) → j .0 < 2 ^ 64
-          fits j = omega (arith, j .1, room .0)
-
           below : Holds (ltb (i .0) (length ts)) → i .0 < length ts
-          below less = ltb→lt (i .0) (length ts) less
+          below = is-below (length ts) i
 
           within : Holds (ltb (i .0) (length ts)) → i .0 < length (filled (i .0))
           within less = subst (λ (k : ℕ). i .0 < k) (sym (filled-length (i .0))) (below less)
 
           inside : Holds (ltb (i .0) (length ts)) → 8 + 8 * n + 32 * i .0 + 32 ≤ length ys
           inside less = omega (arith, below less, long)
-
-          next : Holds (ltb (i .0) (length ts)) → Upto (length ts)
-          next less = (i .0 + 1, add-one-le (below less))
 
           one-more : Holds (ltb (i .0) (length ts)) → (r : Record) → r ≡ recordAt ys (8 + 8 * n + 32 * i .0) → set (filled (i .0)) (i .0) r ≡ filled (i .0 + 1)
           one-more less r e = subst (λ (s : Record). set (filled (i .0)) (i .0) s ≡ filled (i .0 + 1)) (sym e) (one-more-read recordPart idle ys (8 + 8 * n) ts (i .0) (below less))

@@ -1,19 +1,17 @@
 -- `whole::table_refusal` meets its contract: a walk of its MIR, by hand. A turn looks at one record of the lent table and calls
 -- `next_refusal` with it.
-use Prim.Native.Nat.{ℕ, _+_, _≤_, _<_, _^_}
+use Prim.Native.Nat.{ℕ, _≤_, _<_, _^_}
 use native.Mathlib.Nat.{le-antisymm}
-use native.Mathlib.Omega.{arith}
-use mathlib.Core.Bool.{Bool, true, false}
 use mathlib.Core.Path.{_∙_}
 use lib.ListN.{length, getD}
 use denote.Struct.Laws as LL
-use Rattle.lent.proofs.Prelude.{_≡_, refl, sym, ap, List, [], _∷_, zero-le, add-one-le, add-one-dec, Holds, ltb, lit<, ltb→lt, nltb→le, URA, fullShare, Ty, named, w32, w64, tyPtr, Val, vint, vptr, SProp, ent, emp, id⊢}
+use Rattle.lent.proofs.Prelude.{_≡_, refl, sym, ap, List, [], _∷_, zero-le, Holds, ltb, lit<, nltb→le, URA, fullShare, Ty, named, w32, w64, tyPtr, Val, vint, vptr, SProp, ent, emp, id⊢}
 use Rattle.lent.proofs.Prelude.{GName, Lft, Share, ftrue, flft, fat, froom, fdies, Memory, Routine, Heap, Out, Env, Calls, Loops, Wp, WpFn, Tables, atReturn, afterSeq, afterBlock, afterTurn, Atoms, Fun, givenOf, tables, tablesOf}
 use Rattle.lent.proofs.Prelude.{Given, Item, ‵, raw, ⋆, runs, anyQ, atRet, Sq, _⊛_, _$_, _∵_, !, qed, by, move, keep, use0, split, join, rewrite, fsplit, fjoin, suffices, frame, done}
 use Rattle.lent.proofs.Prelude.{look, look-raw, store, init, stop, hop, fld, from, load, lit, of-opd, bin, and-then, no-more, assigns, assigns-last, first, blocks, exec, Below, again, loops, forget, land, returns, enter, alloc1, alloc0, params1, pass1, pass0, free0, whole, sub, look-in}
 use Rattle.lent.proofs.Prelude.{fmOf, WpFn-mono, owns, Is, uint-vals, uint-tells, uint-makes, u32, usize, RefT, ShrSlice, shr-slice-tells, sliceVal, slice-vals, Room, place-is, plain, shrSliceOf, owned, nothing}
 use Rattle.lent.proofs.Prelude.{onEntry, Meets, tripleOf, Contract, Triple, calls-at, entered, cited, says, needs, Stays, stay-dropped, stay-none, walkOf, goes-none, goes-dropped, ends-at, walked, walk-meets, yes, scaled-fits}
-use Rattle.lent.proofs.Steps.{SharedAll, Upto, Nearer, nearer-wf, localTy, goes-on, looks-element, shuts-element, after-plain-call, frees-local, frees-room, with-u32, with-usize, with-struct, result-u32}
+use Rattle.lent.proofs.Steps.{SharedAll, Upto, Nearer, nearer-wf, is-below, turn-fits, next-turn, is-nearer, localTy, goes-on, looks-element, shuts-element, after-plain-call, frees-local, frees-room, with-u32, with-usize, with-struct, result-u32}
 use Rattle.logic.specs.Pick.{pick}
 use Rattle.party.specs.declared.Record.{Record}
 use Rattle.party.specs.Record.{idle}
@@ -125,22 +123,16 @@ module _ {M : Type 1} (𝓤 : URA M) (H : Heap 𝓤) (A : Atoms 𝓤) (W : Given
           after-plain-call ! tt next-refusal.ended (next-refusal.clauses 𝓤 H A at-mem run) (to-next (i .0)) w (λ m. m ≡ pick (validOf (maxOf n) (at (i .0))) (found (i .0)) 4) (λ m ws. id⊢ 𝓤 _) (λ m e. result-u32 ! m w (λ m-fits.
           land ! (from ! (stop !)) (store ! 12 refl (tt, record { fits = m-fits })) $
           rewrite ! 12 (λ (k : ℕ). ‵ (fat fullShare (ty 3) l₃ 0 (vint w32 k))) (e ∙ one-more-refused (isValidIn n ts) (i .0)) refl $
-          assigns-last ! (bin ! (load ! (from ! (stop !)) (look ! 10 refl)) (lit ! tt) (record { fits = fits (next less) })) (from ! (stop !)) (store ! 10 refl (tt, record { fits = fits (next less) })) $
+          assigns-last ! (bin ! (load ! (from ! (stop !)) (look ! 10 refl)) (lit ! tt) (record { fits = turn-fits (length ts) (room .0) (next-turn (length ts) i less) })) (from ! (stop !)) (store ! 10 refl (tt, record { fits = turn-fits (length ts) (room .0) (next-turn (length ts) i less) })) $
           forget ! 2 refl $ forget ! 4 refl $ forget ! 6 refl $ forget ! 8 refl $ move ! (1 ∷ 0 ∷ []) $
-          again ! (Nearer (length ts)) At i (next less) (add-one-dec (length ts) (i .0) (below less)))))))
+          again ! (Nearer (length ts)) At i (next-turn (length ts) i less) (is-nearer (length ts) i less))))))
           (λ over. exec ! C Λ En lowered.t-4 (atRet En Post) $
           assigns ! (of-opd ! (load ! (from ! (stop !)) (look ! 12 refl))) (from ! (stop !)) (init ! 18 refl (tt, record { fits = found-fits (allBelow (isValidIn n ts) (i .0)) })) $
           returns ! (look ! 18 refl) $ frees-local ! 18 refl refl $ frees-local ! 16 refl refl $ frees-local ! 14 refl refl $ frees-local ! 12 refl refl $ frees-local ! 10 refl refl $ frees-local ! 8 refl refl $ frees-local ! 6 refl refl $ frees-room ! 4 refl refl $ frees-room ! 2 refl refl $ free0 ! $
           keep ! (1 ∷ []) $ by ! (exits (found (i .0)) (found-fits (allBelow (isValidIn n ts) (i .0))) (ap found (le-antisymm (i .1) (nltb→le (i .0) (length ts) over)))))
         where
-          fits : (j : Upto (length ts)) → j .0 < 2 ^ 64
-          fits j = omega (arith, j .1, room .0)
-
           below : Holds (ltb (i .0) (length ts)) → i .0 < length ts
-          below less = ltb→lt (i .0) (length ts) less
-
-          next : Holds (ltb (i .0) (length ts)) → Upto (length ts)
-          next less = (i .0 + 1, add-one-le (below less))
+          below = is-below (length ts) i
 
     walk : ent 𝓤 (onEntry 𝓤 H A table-refusal.signature (κ, tt) (q, tt) a vals) (WpFn 𝓤 H C Λ code.function (vint w64 n ∷ table-val ∷ []) Post)
     unfolding allBelow

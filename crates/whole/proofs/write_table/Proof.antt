@@ -1,19 +1,18 @@
 -- `whole::write_table` meets its contract: a walk of its MIR, by hand. A turn looks at one record of the lent table and lends the image
 -- on to `write_party`, which writes its bytes.
 use Prim.Native.Nat.{ℕ, _+_, _*_, _≤_, _<_, _^_}
-use native.Mathlib.Nat.{le-antisymm}
 use native.Mathlib.Omega.{arith}
 use mathlib.Core.Path.{_∙_}
 use lib.ListN.{length, getD, take}
 use lib.Seq.{sets, length-sets, take-all}
 use denote.Struct.Laws as LL
-use Rattle.lent.proofs.Prelude.{_≡_, refl, sym, ap, subst, List, [], _∷_, not, zero-le, add-one-le, add-one-dec, Holds, ltb, lit<, ltb→lt, nltb→le, URA, fullShare, Ty, named, w64, tyPtr, Val, vunit, vint, vptr, SProp, ent, sep, id⊢}
+use Rattle.lent.proofs.Prelude.{_≡_, refl, sym, ap, List, [], _∷_, not, zero-le, Holds, ltb, lit<, nltb→le, URA, fullShare, Ty, named, w64, tyPtr, Val, vunit, vint, vptr, SProp, ent, sep, id⊢}
 use Rattle.lent.proofs.Prelude.{GName, Lft, Share, ftrue, flft, fat, froom, fdies, Memory, Routine, Heap, Out, Env, Calls, Loops, Wp, WpFn, Tables, atReturn, afterSeq, afterBlock, afterTurn, Atoms, sem, Fun, givenOf, tables, tablesOf}
 use Rattle.lent.proofs.Prelude.{Given, Item, ‵, raw, ⋆, runs, anyQ, atRet, Sq, _⊛_, _$_, _∵_, !, qed, by, move, keep, drop, use1, use2, split, join, rewrite, fsplit, fjoin, feqL, feqI, suffices, frame, done}
 use Rattle.lent.proofs.Prelude.{look, look-raw, store, init, stop, hop, fld, from, load, lit, addr, of-opd, bin, unit-lit, and-then, no-more, assigns, assigns-last, first, blocks, exec, Below, again, loops, forget, land, returns, enter, alloc1, alloc0, params1, pass1, pass0, free0, agg, whole, sub, look-in}
-use Rattle.lent.proofs.Prelude.{fmOf, WpFn-mono, owns, Is, uint-vals, uint-tells, u8, usize, RefT, MutSlice, ShrSlice, shr-slice-tells, sliceVal, slice-vals, mut-slice-tells, Room, place-is, plain, shrSliceOf, heard, nothing}
+use Rattle.lent.proofs.Prelude.{fmOf, WpFn-mono, owns, uint-vals, uint-tells, u8, usize, RefT, MutSlice, ShrSlice, shr-slice-tells, sliceVal, slice-vals, mut-slice-tells, Room, place-is, plain, shrSliceOf, heard, nothing}
 use Rattle.lent.proofs.Prelude.{onEntry, Meets, tripleOf, Contract, Triple, calls-at, entered, cited, says, needs, Stays, stay-dropped, stay-slice, stay-none, walkOf, goes-none, goes-dropped, goes-slice, ends-at, walked, walk-meets, yes, scaled-fits}
-use Rattle.lent.proofs.Steps.{SharedAll, Upto, Nearer, nearer-wf, localTy, goes-on, looks-element, shuts-element, lends-on, comes-home, after-call, frees-local, frees-room, with-usize, with-struct, result-unit}
+use Rattle.lent.proofs.Steps.{SharedAll, Upto, Nearer, nearer-wf, is-below, turn-fits, next-turn, is-nearer, localTy, goes-on, looks-element, shuts-element, lends-on, comes-home, after-call, frees-local, frees-room, with-usize, with-struct, result-unit}
 use Rattle.party.specs.declared.Record.{Record}
 use Rattle.party.specs.Record.{idle}
 use Rattle.party.proofs.Record as R
@@ -136,7 +135,7 @@ module _ {M : Type 1} (𝓤 : URA M) (H : Heap 𝓤) (A : Atoms 𝓤) (W : Given
           shuts-element ! tt R.the-type R′.the-laws share ts (i .0) idle b o (below less) $
           -- [the table's token; its borrow; the image; its token; _11; …]
           move ! (2 ∷ 3 ∷ []) $ lends-on ! tt (named 0) (named 0) u8 γ₁ b₁ o₁ (laid (i .0)) (length xs) (laid-length (i .0)) (λ ν δ.
-          use2 W (raw (Writing 𝓤 H A at-mem run .pre (to-party (i .0) ν δ))) (goes-party (i .0) ν δ (fits i) is (inside less)) $
+          use2 W (raw (Writing 𝓤 H A at-mem run .pre (to-party (i .0) ν δ))) (goes-party (i .0) ν δ (turn-fits (length ts) (room .0) i) is (inside less)) $
           -- [the call; what the holder keeps; the table's token; its borrow; _11; …], with _i at 4 + 2 · (11 − i)
           calls-at ! (fmOf 𝓤 H (W .laws) 𝓣) (Writing 𝓤 H A at-mem run) known (to-party (i .0) ν δ) (and-then ! (load ! (from ! (stop !)) (look ! 8 refl)) (and-then ! (load ! (from ! (stop !)) (look ! 22 refl)) (and-then ! (load ! (from ! (stop !)) (look ! 18 refl)) (and-then ! (load ! (from ! (stop !)) (look ! 4 refl)) (no-more !))))) (λ w.
           after-call ! tt write-party.ended (write-party.clauses 𝓤 H A at-mem run) (to-party (i .0) ν δ) w (λ u zs.
@@ -146,26 +145,20 @@ module _ {M : Type 1} (𝓤 : URA M) (H : Heap 𝓤) (A : Atoms 𝓤) (W : Given
           land ! (from ! (stop !)) (init ! 15 refl (tt, tt)) $
           move ! (2 ∷ 4 ∷ 0 ∷ []) $ comes-home ! tt (named 0) (named 0) u8 γ₁ b₁ o₁ (laid (i .0)) (length xs) (laid-length (i .0)) room₁ ν δ (zs .0) l $
           move ! (2 ∷ []) $ drop ! $ move ! (2 ∷ []) $ drop ! $ move ! (0 ∷ 1 ∷ 3 ∷ 2 ∷ []) $
-          assigns-last ! (bin ! (load ! (from ! (stop !)) (look ! 18 refl)) (lit ! tt) (record { fits = fits (next less) })) (from ! (stop !)) (store ! 18 refl (tt, record { fits = fits (next less) })) $
+          assigns-last ! (bin ! (load ! (from ! (stop !)) (look ! 18 refl)) (lit ! tt) (record { fits = turn-fits (length ts) (room .0) (next-turn (length ts) i less) })) (from ! (stop !)) (store ! 18 refl (tt, record { fits = turn-fits (length ts) (room .0) (next-turn (length ts) i less) })) $
           forget ! 4 refl $ forget ! 6 refl $ forget ! 8 refl $ forget ! 10 refl $ forget ! 12 refl $ forget ! 14 refl $ forget ! 16 refl $
           rewrite ! 0 (λ (bytes : List ℕ). ‵ (MutSlice (named 0) κ₁ u8 .own (image γ₁ bytes) (image-val ∷ []))) (e ∙ one-record-more xs (8 + 8 * n) ts (i .0) (below less)) refl $
-          again ! (Nearer (length ts)) At i (next less) (add-one-dec (length ts) (i .0) (below less)))))))))
+          again ! (Nearer (length ts)) At i (next-turn (length ts) i less) (is-nearer (length ts) i less))))))))
           (λ over. exec ! C Λ En lowered.t-3 (atRet En Post) $
           assigns ! (of-opd ! (unit-lit !)) (from ! (stop !)) (init ! 26 refl (tt, tt)) $
           returns ! (look ! 26 refl) $ frees-local ! 26 refl refl $ frees-local ! 24 refl refl $ frees-local ! 22 refl refl $ frees-local ! 20 refl refl $ frees-local ! 18 refl refl $ frees-local ! 16 refl refl $ frees-local ! 14 refl refl $ frees-room ! 12 refl refl $ frees-room ! 10 refl refl $ frees-room ! 8 refl refl $ frees-room ! 6 refl refl $ frees-room ! 4 refl refl $ free0 ! $
           keep ! (0 ∷ 1 ∷ 3 ∷ []) $ by ! (exits (laid (i .0)) (all over) (laid-length (i .0))))
         where
-          fits : (j : Upto (length ts)) → j .0 < 2 ^ 64
-          fits j = omega (arith, j .1, room .0)
-
           below : Holds (ltb (i .0) (length ts)) → i .0 < length ts
-          below less = ltb→lt (i .0) (length ts) less
+          below = is-below (length ts) i
 
           inside : Holds (ltb (i .0) (length ts)) → 8 + 8 * n + 32 * i .0 + 32 ≤ length (laid (i .0))
           inside less = omega (arith, below less, long, laid-length (i .0))
-
-          next : Holds (ltb (i .0) (length ts)) → Upto (length ts)
-          next less = (i .0 + 1, add-one-le (below less))
 
           all : Holds (not (ltb (i .0) (length ts))) → laid (i .0) ≡ sets xs (8 + 8 * n) (tableBytes ts)
           all over = ap (λ (rs : List Record). sets xs (8 + 8 * n) (tableBytes rs)) (take-all (i .0) ts (nltb→le (i .0) (length ts) over))

@@ -1,5 +1,5 @@
 use Prim.Native.Nat.{ℕ, _+_, _*_, _-_, _≤_}
-use mathlib.Core.Path.{_≡_, refl, sym, _∙_, ap}
+use mathlib.Core.Path.{_≡_, refl, _∙_, ap}
 use mathlib.Core.List.{List}
 use lib.ListN.{length, getD, take}
 use lib.Seq.{sets, length-sets, take-all}

@@ -1,0 +1,179 @@
+-- A strip and a table that are written, read from the bytes, are the same strip and table.
+use Prim.Native.Nat.{ℕ, zero, suc, _+_, _*_, _≤_, _<_}
+use mathlib.Core.Path.{_≡_, refl, sym, _∙_, ap}
+use mathlib.Core.Bool.{true, not}
+use mathlib.Core.List.{List, [], _∷_}
+use lib.ListN.{length, getD}
+use lib.Seq.{sets, length-sets}
+use lib.Dec.{eqb}
+use borrow.Author.Tests.{eq-eqb, le-leb, le-ltb, not-false}
+use native.Mathlib.Omega.{arith}
+use Rattle.logic.specs.Every.{Every}
+use Rattle.logic.proofs.Bools.{passed}
+use Rattle.party.specs.Record.{idle}
+use Rattle.party.specs.declared.Record.{Record}
+use Rattle.step.specs.Step.{maxOf}
+use Rattle.little.specs.Bytes.{numberAt, bytesOf}
+use Rattle.little.proofs.Runs.{below-a-run}
+use Rattle.little.proofs.Digits.{number-below-run, laid-fitting-is-read}
+use Rattle.image.specs.Format.{recordPlace, lengthOf, isMarked, maxAt, partiesAt, sizesFit, headerRefusal}
+use Rattle.image.specs.Spelling.{stripOf, tableOf, wordsFrom, recordAt, recordsFrom, wordBytes, recordBytes, RecordFits}
+use Rattle.image.specs.Calls.{headerBytes}
+use Rattle.image.proofs.Parts.{partsFrom, same-parts, part-at, laid-parts-read}
+use Rattle.image.proofs.Words.{WordFits, wordPart, words-are-parts, words-laid-are-parts}
+use Rattle.image.proofs.Records.{recordPart, same-record, laid-record-read, records-are-parts}
+use Rattle.whole.specs.Whole.{allBelow, isSound, readRefusal, ReadPromise, sizesAgree, isValidIn, partyBytes, tableBytes, writeRefusal, writtenOf, WritePromise}
+use Rattle.whole.proofs.Below.{each-below, all-of-each}
+use Rattle.whole.proofs.Checked.{Lent, writable}
+use Rattle.whole.proofs.Laid.{party-laid, first-laid, length-written, written-laid}
+
+-- a record's fields do not lie in its spare bytes
+spare-unread : (vs l : List ℕ) (at : ℕ) → recordAt (sets l (at + 24) vs) at ≡ recordAt l at
+unfolding recordAt
+spare-unread vs l at =
+    rw
+    (below-a-run vs l (at + 24) at (omega arith), below-a-run vs l (at + 24) (at + 1) (omega arith), number-below-run 2 vs l (at + 24) (at + 2) (omega arith), number-below-run 4 vs l (at + 24) (at + 4) (omega arith), number-below-run 8 vs l (at + 24) (at + 8) (omega arith), number-below-run 8 vs l (at + 24) (at + 16) (omega arith))
+    refl
+
+party-read : (l : List ℕ) (at : ℕ) (r : Record) → RecordFits r → at + 32 ≤ length l → recordAt (sets l at (partyBytes r)) at ≡ r
+party-read l at r fits long =
+    ap (λ (m : List ℕ). recordAt m at) (sym (party-laid l at r)) ∙ spare-unread (bytesOf 8 0) (sets l at (recordBytes r)) at ∙ laid-record-read l at r fits long
+
+-- the records of a table that was laid, and their spare bytes
+laid-records-read : (table : List Record) (l : List ℕ) (at : ℕ) → Every RecordFits idle table → at + 32 * length table ≤ length l
+    → recordsFrom (sets l at (tableBytes table)) at (length table) ≡ table
+unfolding recordsFrom tableBytes
+laid-records-read [] l at fit long = refl
+laid-records-read (r ∷ table) l at fit long =
+    let m = sets l at (partyBytes r) in
+    let same = length-sets l at (partyBytes r) in
+    let this : recordAt (sets m (at + 32) (tableBytes table)) at ≡ r =
+    same-record (sets m (at + 32) (tableBytes table)) m at (λ i lo hi. below-a-run (tableBytes table) m (at + 32) i hi) ∙ party-read l at r (fit 0 (omega arith)) (omega arith) in
+    rw (first-laid l at r table, this, laid-records-read table m (at + 32) (λ i h. fit (suc i) (omega arith)) (omega arith)) refl
+
+laid-spare : (table : List Record) (l : List ℕ) (at i : ℕ) → i < length table → at + 32 * length table ≤ length l
+    → numberAt 8 (sets l at (tableBytes table)) (at + 32 * i + 24) ≡ 0
+laid-spare [] l at i h long = absurd (omega arith)
+laid-spare (r ∷ table) l at zero h long =
+    let m = sets l at (partyBytes r) in
+    let here : at + 32 * 0 + 24 ≡ at + 24 = omega arith in
+    let same = length-sets l at (recordBytes r) in
+    rw (here, first-laid l at r table)
+    (number-below-run 8 (tableBytes table) m (at + 32) (at + 24) (omega arith)
+    ∙ ap (λ (k : List ℕ). numberAt 8 k (at + 24)) (sym (party-laid l at r))
+    ∙ laid-fitting-is-read 8 (sets l at (recordBytes r)) (at + 24) 0 (omega arith) (omega arith))
+laid-spare (r ∷ table) l at (suc i) h long =
+    let m = sets l at (partyBytes r) in
+    let moved : at + 32 * suc i + 24 ≡ at + 32 + 32 * i + 24 = omega arith in
+    let same = length-sets l at (partyBytes r) in
+    rw (moved, first-laid l at r table) (laid-spare table m (at + 32) i (omega arith) (omega arith))
+
+module _ (strip : List ℕ) (table : List Record) (right : Lent (length strip) (length table)) where
+  abbrev bytes : List ℕ
+  bytes = writtenOf strip table
+
+  -- the header of what is written
+  max-is : maxAt bytes ≡ maxOf (length strip)
+  unfolding numberAt bytesOf
+  max-is = omega (arith, right .most)
+
+  words-are : maxAt bytes + 2 ≡ length strip
+  words-are = omega (arith, max-is, right .least)
+
+  parties-are : partiesAt bytes ≡ length table
+  unfolding bytesOf
+  parties-are = refl
+
+  is-marked : isMarked bytes ≡ true
+  unfolding numberAt bytesOf
+  is-marked = refl
+
+  is-sized : sizesFit (length bytes) (maxAt bytes) (partiesAt bytes) ≡ true
+  is-sized =
+      rw (max-is, parties-are, le-leb 1 (maxOf (length strip)) (omega (arith, right .least)), le-leb (maxOf (length strip)) 4094 (omega (arith, right .most)), le-leb 1 (length table) (right .some), le-leb (length table) 16 (right .few))
+      (eq-eqb (length bytes) (lengthOf (maxOf (length strip)) (length table)) (omega (arith, length-written strip table, right .least)))
+
+  is-taken : headerRefusal bytes ≡ 0
+  unfolding headerRefusal
+  is-taken = rw (le-ltb (length bytes) 8 (omega (arith, length-written strip table)), is-marked, is-sized) refl
+
+  -- the bytes as they are laid: header, words and records over themselves
+  abbrev headed : List ℕ
+  headed = sets bytes 0 (headerBytes (maxOf (length strip)) (length table))
+
+  abbrev worded : List ℕ
+  worded = sets headed 8 (wordBytes strip)
+
+  headed-length : length headed ≡ 8 + 8 * length strip + 32 * length table
+  headed-length = length-sets bytes 0 (headerBytes (maxOf (length strip)) (length table)) ∙ length-written strip table
+
+  worded-length : length worded ≡ 8 + 8 * length strip + 32 * length table
+  worded-length = length-sets headed 8 (wordBytes strip) ∙ headed-length
+
+  as-laid : bytes ≡ sets worded (8 + 8 * length strip) (tableBytes table)
+  as-laid = sym (written-laid bytes strip table (length-written strip table))
+
+  pub strip-is-read : Every WordFits 0 strip → stripOf bytes ≡ strip
+  strip-is-read fit =
+      ap (wordsFrom bytes 8) words-are ∙ words-are-parts (length strip) bytes 8
+      ∙ ap (λ (l : List ℕ). partsFrom wordPart l 8 (length strip)) as-laid
+      ∙ same-parts wordPart (length strip) (sets worded (8 + 8 * length strip) (tableBytes table)) worded 8 (λ i lo hi. below-a-run (tableBytes table) worded (8 + 8 * length strip) i hi)
+      ∙ ap (λ (l : List ℕ). partsFrom wordPart l 8 (length strip)) (words-laid-are-parts strip headed 8)
+      ∙ laid-parts-read wordPart 0 strip headed 8 fit (omega (arith, headed-length))
+
+  records-are-read : Every RecordFits idle table → recordsFrom bytes (8 + 8 * length strip) (length table) ≡ table
+  records-are-read fit =
+      ap (λ (l : List ℕ). recordsFrom l (8 + 8 * length strip) (length table)) as-laid
+      ∙ laid-records-read table worded (8 + 8 * length strip) fit (omega (arith, worded-length))
+
+  place-of : (i : ℕ) → recordPlace (maxAt bytes) i ≡ 8 + 8 * length strip + 32 * i
+  place-of i = omega (arith, words-are)
+
+  pub table-is-read : Every RecordFits idle table → tableOf bytes ≡ table
+  table-is-read fit =
+      let start : recordPlace (maxAt bytes) 0 ≡ 8 + 8 * length strip = omega (arith, words-are) in
+      ap (λ (at : ℕ). recordsFrom bytes at (partiesAt bytes)) start ∙ ap (recordsFrom bytes (8 + 8 * length strip)) parties-are ∙ records-are-read fit
+
+  record-read : Every RecordFits idle table → (i : ℕ) → i < length table → recordAt bytes (8 + 8 * length strip + 32 * i) ≡ getD table i idle
+  record-read fit i h =
+      sym (part-at recordPart (length table) bytes (8 + 8 * length strip) i idle h)
+      ∙ ap (λ (l : List Record). getD l i idle) (sym (records-are-parts (length table) bytes (8 + 8 * length strip)) ∙ records-are-read fit)
+
+  spare-read : (i : ℕ) → i < length table → numberAt 8 bytes (8 + 8 * length strip + 32 * i + 24) ≡ 0
+  spare-read i h =
+      ap (λ (l : List ℕ). numberAt 8 l (8 + 8 * length strip + 32 * i + 24)) as-laid
+      ∙ laid-spare table worded (8 + 8 * length strip) i h (omega (arith, worded-length))
+
+  -- every check of reading passes
+  pub is-readable : Every RecordFits idle table → allBelow (isValidIn (length strip) table) (length table) ≡ true → readRefusal bytes (length strip) (length table) ≡ 0
+  unfolding readRefusal
+  is-readable fit valid =
+      let each : (i : ℕ) → i < length table → isSound bytes (maxAt bytes) i ≡ true =
+      λ i h. rw (place-of i, spare-read i h, record-read fit i h, max-is) (each-below (isValidIn (length strip) table) (length table) valid i h) in
+      let sound : allBelow (isSound bytes (maxAt bytes)) (partiesAt bytes) ≡ true =
+      ap (allBelow (isSound bytes (maxAt bytes))) parties-are ∙ all-of-each (isSound bytes (maxAt bytes)) (length table) each in
+      let words : eqb (length strip) (maxAt bytes + 2) ≡ true = eq-eqb (length strip) (maxAt bytes + 2) (sym words-are) in
+      let parties : eqb (length table) (partiesAt bytes) ≡ true = eq-eqb (length table) (partiesAt bytes) (sym parties-are) in
+      rw (le-leb 3 (length strip) (right .least), le-leb (length strip) 4096 (right .most), le-leb 1 (length table) (right .some), le-leb (length table) 16 (right .few), is-taken, words, parties, sound) refl
+
+-- A strip and a table that `write` takes, read from the bytes it left into a strip and a table of their lengths, are the same.
+pub written-then-read-is-the-same : (image strip : List ℕ) (table : List Record) (bytes strip′ : List ℕ) (table′ : List Record) (number : ℕ) (words : List ℕ) (records : List Record)
+    → Every WordFits 0 strip → Every RecordFits idle table → WritePromise image strip table 0 bytes
+    → length strip′ ≡ length strip → length table′ ≡ length table → ReadPromise bytes strip′ table′ number words records
+    → (number ≡ 0) × ((words ≡ strip) × (records ≡ table))
+unfolding writeRefusal
+written-then-read-is-the-same image strip table bytes strip′ table′ number words records word-fits record-fits written same-words same-parties read =
+    let clear = sym (written .number-written) in
+    let fit = sizesAgree (length image) (length strip) (length table) in
+    let valid = allBelow (isValidIn (length strip) table) (length table) in
+    let past1 = passed (not fit) 0 _ clear in
+    let past4 = passed (not valid) 3 0 (past1 .1) in
+    let right = writable (length image) (length strip) (length table) (not-false fit (past1 .0)) .lent-right in
+    let is : bytes ≡ writtenOf strip table = written .bytes-written ∙ rw clear refl in
+    let done : readRefusal bytes (length strip′) (length table′) ≡ 0 = rw (is, same-words, same-parties) (is-readable strip table right record-fits (not-false valid (past4 .0))) in (
+      read .number-read ∙ done,
+      (
+        read .words-read ∙ rw (done, is) (strip-is-read strip table right word-fits),
+        read .records-read ∙ rw (done, is) (table-is-read strip table right record-fits),
+      ),
+    )
