@@ -1,21 +1,22 @@
 -- What a call on an image does, by its checks: refused before the record's own, refused by the record, or done.
 use Prim.Native.Nat.{ℕ, _+_, _≤_, _<_}
-use mathlib.Core.Path.{_≡_, refl, sym, _∙_, ap}
+use mathlib.Core.Path.{_≡_, refl, sym, _∙_, ap, subst}
 use mathlib.Core.Bool.{Bool, true, false}
 use mathlib.Core.List.{List}
-use lib.ListN.{length, set}
-use lib.Seq.{sets, set-getD}
+use lib.ListN.{length, set, length-set}
+use lib.Seq.{sets, set-getD, getD-set-same}
 use lib.Dec.{eqb, leb}
 use borrow.Author.Tests.{eqb-true, ne-eqb, le-leb}
 use native.Mathlib.Omega.{arith}
 use Rattle.logic.specs.Pick.{pick}
+use Rattle.logic.specs.Every.{Every}
 use Rattle.party.specs.Record.{idle}
 use Rattle.party.specs.Answer.{refused}
 use Rattle.party.specs.declared.Record.{Record}
 use Rattle.party.specs.declared.Answered.{Answered}
 use Rattle.party.proofs.Cleared.{max-within}
 use Rattle.step.specs.Step.{stripFits, maxOf}
-use Rattle.step.specs.Call.{Call, partyOf, isUnknown, gate, ownOf, ownLeaves, recordOf, through, turnedAway, callOf}
+use Rattle.step.specs.Call.{Call, Fitting, partyOf, isUnknown, gate, ownOf, ownLeaves, recordOf, through, turnedAway, callOf}
 use Rattle.little.specs.Bytes.{bytesOf}
 use Rattle.image.specs.Format.{wordPlace, recordPlace, maxAt, partiesAt, headerRefusal}
 use Rattle.image.specs.Spelling.{stripOf, tableOf, recordAt, isSpare, spelled, RecordFits}
@@ -23,6 +24,8 @@ use Rattle.image.specs.Read.{namedRefusal, recorded}
 use Rattle.image.specs.Calls.{Done, unchanged, encoded, imageOf}
 use Rattle.little.proofs.Digits.{AreBytes}
 use Rattle.image.proofs.Words.{WordFits}
+use Rattle.image.proofs.Widths.{read-record-fits}
+use Rattle.image.proofs.Leaves.{words-fit, Fit, own-leaves}
 use Rattle.image.proofs.Accepted.{accepted}
 use Rattle.image.proofs.Gated.{NamedFits, named-fits}
 use Rattle.image.proofs.Spelled.{strip-length, table-length, record-is-read, decoded-is-spelled, record-is-laid, both-are-laid}
@@ -102,13 +105,24 @@ module _ (image : List ℕ) (call : Call) (are : AreBytes image) (clear : namedR
       ap (set (tableOf image) (partyOf call)) (sym record-is) ∙ set-getD (tableOf image) (partyOf call) idle in
       passes owned ∙ rw (same, decoded-is-spelled image are) refl
 
-  pub own-recorded : (given : Answered) → Owned given (stripOf image) → RecordFits (given .rec)
-      → imageOf image call ≡ record { answer = given .answer; image = recorded image (placeIn image call) given }
-  own-recorded given owned narrow =
-      passes owned ∙ rw (record-is-laid image are (partyOf call) (given .rec) narrow (fits .party-known)) refl
+  module _ (narrow : Fitting call) where
+    -- what the call leaves fits the image
+    own-fit : Fit (stripOf image) (ownLeaves (stripOf image) (recordIn image call) call) (ownOf (stripOf image) (recordIn image call) call .rec)
+    own-fit = own-leaves (stripOf image) (words-fit image are) (recordIn image call) (read-record-fits image (placeIn image call) are) call narrow
 
-  pub own-swapped : (given : Answered) (place w : ℕ) → Owned given (set (stripOf image) place w) → RecordFits (given .rec) → WordFits w
-      → place < maxAt image + 2
-      → imageOf image call ≡ record { answer = given .answer; image = recorded (sets image (wordPlace place) (bytesOf 8 w)) (placeIn image call) given }
-  own-swapped given place w owned narrow fitting inside =
-      passes owned ∙ rw (both-are-laid image are place w (partyOf call) (given .rec) fitting inside narrow (fits .party-known)) refl
+    rec-fits : (given : Answered) {left : List ℕ} → Owned given left → RecordFits (given .rec)
+    rec-fits given owned = subst (λ (a : Answered). RecordFits (a .rec)) (owned .0) (own-fit .rec)
+
+    pub own-recorded : (given : Answered) → Owned given (stripOf image)
+        → imageOf image call ≡ record { answer = given .answer; image = recorded image (placeIn image call) given }
+    own-recorded given owned =
+        passes owned ∙ rw (record-is-laid image are (partyOf call) (given .rec) (rec-fits given owned) (fits .party-known)) refl
+
+    pub own-swapped : (given : Answered) (place w : ℕ) → Owned given (set (stripOf image) place w) → place < maxAt image + 2
+        → imageOf image call ≡ record { answer = given .answer; image = recorded (sets image (wordPlace place) (bytesOf 8 w)) (placeIn image call) given }
+    own-swapped given place w owned inside =
+        let within : place < length (stripOf image) = rw (strip-length image) inside in
+        let word-fits : WordFits w =
+        subst WordFits (getD-set-same (stripOf image) place w 0 within)
+        (subst (Every WordFits 0) (owned .1) (own-fit .words) place (rw (length-set (stripOf image) place w) within)) in
+        passes owned ∙ rw (both-are-laid image are place w (partyOf call) (given .rec) word-fits inside (rec-fits given owned) (fits .party-known)) refl

@@ -6,6 +6,7 @@ pub mod Widths
 pub mod Accepted
 pub mod Gated
 pub mod Spelled
+pub mod Leaves
 pub mod Called
 pub mod Owned
 pub mod Promised

@@ -66,9 +66,7 @@ module _ (image : List ℕ) (party operation order : ℕ) (are : AreBytes image)
       → imageOf image starting ≡ record { answer = GoesOn; image = recorded image (placeIn image starting) (goesOn (begun operation order)) }
   unfolding startOf
   start-done none narrow =
-      let known = ltb-false 3 operation (named-fits image (ltb 3 operation) party clear .known) in
-      own-recorded image starting are clear (goesOn (begun operation order)) (rw (start-own-is, none) refl, refl)
-      (begun-fits operation order (omega arith) narrow)
+      own-recorded image starting are clear narrow (goesOn (begun operation order)) (rw (start-own-is, none) refl, refl)
 
 module _ (image : List ℕ) (party : ℕ) (are : AreBytes image) (clear : namedRefusal image false party ≡ 0) where
   abbrev withdrawing : Call
@@ -89,28 +87,7 @@ module _ (image : List ℕ) (party : ℕ) (are : AreBytes image) (clear : namedR
       → imageOf image withdrawing ≡ record { answer = GoesOn; image = recorded image (placeIn image withdrawing) (goesOn idle) }
   unfolding withdrawOf
   withdraw-done none =
-      own-recorded image withdrawing are clear (goesOn idle) (rw (withdraw-own-is, none) refl, refl) idle-fits
-
--- what a swap of a line goes from and to fits its width
-abbrev pub LineFits : Line → Type 0
-LineFits (Look place then) = Unit {0}
-LineFits (Swap place from to then) = WordFits from × (to < 4294967296)
-
-pub line-fits : (r : Record) → RecordFits r → LineFits (lineOf r)
-unfolding lineOf
-line-fits r fits =
-    whichever LineFits (eqb (r .stage) 1) tt
-    (whichever LineFits (eqb (r .stage) 2) tt
-    (whichever LineFits (eqb (r .stage) 3) tt
-    (whichever LineFits (eqb (r .stage) 4)
-    (whichever LineFits push (omega (arith, fits)) (fits .second-fits, null))
-    (whichever LineFits push (omega (arith, fits)) (fits .first-fits, null)))))
-  where
-    push : Bool
-    push = isPush (r .operation)
-
-    null : own r < 4294967296
-    null = whichever (λ (n : ℕ). n < 4294967296) (isRight (r .operation)) (omega arith) (omega arith)
+      own-recorded image withdrawing are clear tt (goesOn idle) (rw (withdraw-own-is, none) refl, refl)
 
 -- a line that swaps is of a later stage than 1
 swap-is-later : (r : Record) (place from to : ℕ) (then : AfterSwap) → lineOf r ≡ Swap place from to then → r .stage ≡ 1 → ⊥
@@ -150,9 +127,6 @@ module _ (image : List ℕ) (party hint : ℕ) (are : AreBytes image) (clear : n
     pub hint-fits : before .stage ≡ 1 → hint < 65536
     hint-fits = hint-fits-k (length (stripOf image)) before hint cleared
 
-    aim-fits : RecordFits (aimed before hint)
-    aim-fits = aimed-fits before hint (read-record-fits image (placeIn image stepping) are) hint-fits
-
     module _ (at : Record) (a : at ≡ aimed before hint) where
       -- the place of the line is inside the strip
       pub line-inside : (l : Line) → lineOf at ≡ l → placeOf l < maxAt image + 2
@@ -160,9 +134,6 @@ module _ (image : List ℕ) (party hint : ℕ) (are : AreBytes image) (clear : n
           subst (λ (m : Line). placeOf m < maxAt image + 2) (ap lineOf (sym a) ∙ line)
           (subst (λ (words : ℕ). placeOf (lineOf (aimed before hint)) < words) (strip-length image)
           (place-inside (length (stripOf image)) before hint cleared))
-
-      at-fits : RecordFits at
-      at-fits = subst RecordFits (sym a) aim-fits
 
       pub step-looked : (place : ℕ) (then : AfterLook) → lineOf at ≡ Look place then
           → imageOf image stepping ≡ record {
@@ -173,9 +144,8 @@ module _ (image : List ℕ) (party hint : ℕ) (are : AreBytes image) (clear : n
           let word = numberAt 8 image (wordPlace place) in
           let seen = word-is-read image place (line-inside (Look place then) line) in
           let step = when-looks (stripOf image) before at hint passes a place then word line (sym seen) in
-          own-recorded image stepping are clear (lookedOf (maxAt image) at then word)
+          own-recorded image stepping are clear tt (lookedOf (maxAt image) at then word)
           (sym (step .0) ∙ ap (λ (max : ℕ). lookedOf max at then word) (max-of image), sym (step .1))
-          (looked-fits (maxAt image) at at-fits then word (number-fits 8 image (wordPlace place) are))
 
       pub step-swapped : (place from to : ℕ) (then : AfterSwap) → lineOf at ≡ Swap place from to then
           → imageOf image stepping ≡ record {
@@ -203,20 +173,16 @@ module _ (image : List ℕ) (party hint : ℕ) (are : AreBytes image) (clear : n
               (wordsAfter met (stripOf image) place (raisedTo from to)) line
               (record { answered = same; words = ap (λ (t : Swapped). wordsAfter t (stripOf image) place (raisedTo from to)) same })
 
-          fitting : LineFits (Swap place from to then)
-          fitting = subst LineFits line (line-fits at at-fits)
-
           go : SwapGoes (numberAt 8 image (wordPlace place)) from → Went (metAt image place from)
           go (SwapGoes.won same unended e) =
               let step = owned Won e in
               subst Went (sym e)
-              (own-swapped image stepping are clear (swappedOf at then Won) place (raisedTo from to)
-              (sym (step .0), sym (step .1)) (swapped-fits at at-fits then Won) (omega (arith, fitting, unended)) inside)
+              (own-swapped image stepping are clear tt (swappedOf at then Won) place (raisedTo from to) (sym (step .0), sym (step .1)) inside)
           go (SwapGoes.lost other e) =
               let met = numberAt 8 image (wordPlace place) in
               let step = owned (Lost met) e in
               subst Went (sym e)
-              (own-recorded image stepping are clear (swappedOf at then (Lost met)) (sym (step .0), sym (step .1)) (swapped-fits at at-fits then (Lost met)))
+              (own-recorded image stepping are clear tt (swappedOf at then (Lost met)) (sym (step .0), sym (step .1)))
           go (SwapGoes.stuck same ended e) =
               let step = owned Stuck e in
               let later = aimed-later before hint (λ s. swap-is-later at place from to then line (ap (λ (r : Record). r .stage) a ∙ s)) in
