@@ -1,44 +1,25 @@
 -- A call on an image, decoded: the words and the records that the image spells afterwards are those that the call leaves of the
 -- words and the records that it spelled before.
-use Prim.Native.Nat.{ℕ, _<_}
-use mathlib.Core.Path.{_≡_, refl, sym, _∙_, subst}
-use mathlib.Core.Bool.{Bool, true, false}
+use Prim.Native.Nat.{ℕ}
+use mathlib.Core.Path.{_≡_, refl, _∙_}
+use mathlib.Core.Bool.{false}
 use mathlib.Core.List.{List}
-use lib.ListN.{length, getD, length-set, List·getD-eq-default}
-use lib.Dec.{eqb, ltb}
-use borrow.Author.Tests.{eqb-true, ltb-true, ltb-false}
-use native.Mathlib.Omega.{arith}
-use Rattle.logic.specs.Pick.{pick}
+use lib.ListN.{length, length-set}
+use lib.Dec.{eqb}
 use Rattle.logic.specs.Every.{Every}
 use Rattle.logic.proofs.Bools.{whichever}
 use Rattle.logic.proofs.Lists.{every-set}
-use Rattle.word.specs.Word.{raisedTo}
-use Rattle.word.specs.Swap.{swapOf, wordsAfter}
-use Rattle.word.specs.declared.Swapped.{Swapped}
-use Rattle.word.specs.declared.Swapped.the-variants.{Won, Lost, Stuck}
-use Rattle.word.proofs.Laws.{SwapGoes, swap-goes}
-use Rattle.party.specs.Record.{idle, begun}
-use Rattle.party.specs.Answer.{goesOn, refused}
-use Rattle.party.specs.Calls.{startRefusal, startOf, withdrawRefusal, withdrawOf}
+use Rattle.party.specs.Record.{idle}
 use Rattle.party.specs.declared.Record.{Record}
-use Rattle.party.specs.declared.Answered.{Answered}
-use Rattle.party.proofs.Cleared.{startable}
-use Rattle.step.specs.Table.{lineOf}
-use Rattle.step.specs.Follow.{swappedOf}
-use Rattle.step.specs.Step.{maxOf, stepRefusal, aimed, followed, written, stepOf, stepLeaves}
 use Rattle.step.specs.Call.{Call, Fitting, gate, ownOf, ownLeaves, recordOf, partyOf, Left, through, turnedAway, callOf}
-use Rattle.step.specs.Call.Call.{start, step, withdraw}
-use Rattle.step.specs.declared.Line.{Line}
-use Rattle.step.specs.declared.Line.the-variants.{Look, Swap}
-use Rattle.step.proofs.Cleared.{steppable, hint-fits-k}
-use Rattle.image.specs.Format.{wordPlace, recordPlace, maxAt, headerRefusal}
+use Rattle.image.specs.Format.{headerRefusal}
 use Rattle.image.specs.Spelling.{stripOf, tableOf, spelled, RecordFits}
 use Rattle.image.specs.Calls.{decoded, spareRefused, imageOf}
-use Rattle.little.proofs.Digits.{AreBytes, number-fits}
+use Rattle.little.proofs.Digits.{AreBytes}
 use Rattle.image.proofs.Words.{WordFits}
-use Rattle.image.proofs.Widths.{read-record-fits, idle-fits, begun-fits, aimed-fits, looked-fits, swapped-fits}
+use Rattle.image.proofs.Widths.{idle-fits}
 use Rattle.image.proofs.Accepted.{accepted}
-use Rattle.image.proofs.Spelled.{strip-length, table-length, word-is-read, record-is-read, spelled-strip-is-decoded, spelled-table-is-decoded}
+use Rattle.image.proofs.Spelled.{strip-length, table-length, spelled-strip-is-decoded, spelled-table-is-decoded}
 use Rattle.image.proofs.Leaves.{words-fit, records-fit, fits-anywhere, Fit, own-leaves}
 
 -- The image of a call that the header and the spare bytes let through spells what the call leaves.

@@ -6,8 +6,7 @@ use lib.ListN.{length, set, replicate, length-set, length-append, length-replica
 use lib.Seq.{sets, length-sets, take-suc}
 use native.Mathlib.Numerals.{add-one}
 use native.Mathlib.Omega.{arith}
-use Rattle.word.specs.Word.{RN}
-use Rattle.strip.specs.Lay.{leftsOf, rightsOf, freshStrip}
+use Rattle.strip.specs.Lay.{leftsOf, rightsOf}
 use Rattle.little.specs.Bytes.{bytesOf}
 use Rattle.image.specs.Format.{lengthOf}
 use Rattle.image.specs.Spelling.{wordBytes}

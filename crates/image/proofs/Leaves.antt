@@ -1,6 +1,6 @@
 -- What a call leaves of words and records that fit the image, fits it too.
 use Prim.Native.Nat.{ℕ, _<_}
-use mathlib.Core.Path.{_≡_, refl, sym, _∙_, subst}
+use mathlib.Core.Path.{_≡_, refl, sym, subst}
 use mathlib.Core.Bool.{Bool, true, false}
 use mathlib.Core.List.{List}
 use lib.ListN.{length, getD, length-set, List·getD-eq-default}
@@ -25,22 +25,19 @@ use Rattle.party.proofs.Cleared.{startable}
 use Rattle.step.specs.Table.{lineOf}
 use Rattle.step.specs.Follow.{swappedOf}
 use Rattle.step.specs.Step.{maxOf, stepRefusal, aimed, followed, written, stepOf, stepLeaves}
-use Rattle.step.specs.Call.{Call, Fitting, gate, ownOf, ownLeaves, recordOf, partyOf, Left, through, turnedAway, callOf}
+use Rattle.step.specs.Call.{Call, Fitting, ownOf, ownLeaves}
 use Rattle.step.specs.Call.Call.{start, step, withdraw}
 use Rattle.step.specs.declared.Line.{Line}
 use Rattle.step.specs.declared.Line.the-variants.{Look, Swap}
 use Rattle.step.proofs.Cleared.{steppable, hint-fits-k}
-use Rattle.image.specs.Format.{wordPlace, recordPlace, maxAt, headerRefusal}
-use Rattle.image.specs.Spelling.{stripOf, tableOf, spelled, RecordFits}
-use Rattle.image.specs.Calls.{decoded, spareRefused, imageOf}
+use Rattle.image.specs.Format.{wordPlace, recordPlace, maxAt}
+use Rattle.image.specs.Spelling.{stripOf, tableOf, RecordFits}
 use Rattle.little.proofs.Digits.{AreBytes, number-fits}
 use Rattle.image.proofs.Words.{WordFits}
 use Rattle.image.proofs.Widths.{read-record-fits, idle-fits, begun-fits, aimed-fits, looked-fits, swapped-fits}
-use Rattle.image.proofs.Accepted.{accepted}
-use Rattle.image.proofs.Spelled.{strip-length, table-length, word-is-read, record-is-read, spelled-strip-is-decoded, spelled-table-is-decoded}
-use Prim.Native.Nat.{_+_}
+use Rattle.image.proofs.Spelled.{strip-length, table-length, word-is-read, record-is-read}
 use Rattle.party.specs.Operation.{isPush, isRight}
-use Rattle.step.specs.Table.{near, own}
+use Rattle.step.specs.Table.{own}
 
 pub words-fit : (image : List ℕ) → AreBytes image → Every WordFits 0 (stripOf image)
 words-fit image are i within =

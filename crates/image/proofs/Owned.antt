@@ -1,26 +1,24 @@
 -- Start, step and withdraw on an image past the checks before the record's own: what each does, as the code finds it.
 use Prim.Native.Nat.{ℕ, _+_, _<_}
 use mathlib.Core.Path.{_≡_, refl, sym, _∙_, ap, subst}
-use mathlib.Core.Bool.{Bool, false}
+use mathlib.Core.Bool.{false}
 use mathlib.Core.List.{List}
 use lib.ListN.{length, getD}
-use lib.Dec.{eqb, ltb}
-use borrow.Author.Tests.{ne-eqb, ltb-false}
+use lib.Dec.{ltb}
+use borrow.Author.Tests.{ne-eqb}
 use native.Mathlib.Omega.{arith}
-use Rattle.logic.proofs.Bools.{whichever}
 use Rattle.word.specs.Word.{raisedTo}
 use Rattle.word.specs.Swap.{swapOf, wordsAfter}
 use Rattle.word.specs.declared.Swapped.{Swapped}
 use Rattle.word.specs.declared.Swapped.the-variants.{Won, Lost, Stuck}
 use Rattle.word.proofs.Laws.{SwapGoes, swap-goes}
-use Rattle.party.specs.Operation.{isPush, isRight}
 use Rattle.party.specs.Record.{idle, begun}
 use Rattle.party.specs.Answer.{goesOn, refused}
 use Rattle.party.specs.Calls.{startOwn, startRefusal, startOf, withdrawOwn, withdrawRefusal, withdrawOf}
 use Rattle.party.specs.declared.Record.{Record}
 use Rattle.party.specs.declared.Answer.the-variants.{GoesOn}
 use Rattle.party.proofs.Cleared.{max-within}
-use Rattle.step.specs.Table.{near, own, lineOf}
+use Rattle.step.specs.Table.{near, lineOf}
 use Rattle.step.specs.Follow.{lookedOf, swappedOf}
 use Rattle.step.specs.Step.{maxOf, stepOwn, stepRefusal, aimed, stepOf, stepLeaves}
 use Rattle.step.specs.Call.{Call}
@@ -34,12 +32,10 @@ use Rattle.step.proofs.Lines.{when-refused, when-looks, when-swaps}
 use Rattle.step.proofs.Stages.{aimed-later}
 use Rattle.little.specs.Bytes.{numberAt}
 use Rattle.image.specs.Format.{wordPlace, maxAt}
-use Rattle.image.specs.Spelling.{stripOf, RecordFits}
+use Rattle.image.specs.Spelling.{stripOf}
 use Rattle.image.specs.Read.{namedRefusal, recorded, swapRecorded, metAt}
 use Rattle.image.specs.Calls.{unchanged, imageOf}
-use Rattle.little.proofs.Digits.{AreBytes, number-fits}
-use Rattle.image.proofs.Words.{WordFits}
-use Rattle.image.proofs.Widths.{read-record-fits, idle-fits, begun-fits, aimed-fits, looked-fits, swapped-fits}
+use Rattle.little.proofs.Digits.{AreBytes}
 use Rattle.image.proofs.Gated.{named-fits}
 use Rattle.image.proofs.Spelled.{strip-length, word-is-read}
 use Rattle.image.proofs.Called.{strip-fits, max-of, placeIn, recordIn, own-refused, own-recorded, own-swapped}

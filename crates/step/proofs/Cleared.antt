@@ -6,7 +6,7 @@ use lib.Dec.{eqb, leb}
 use borrow.Author.Tests.{leb-true, not-false, eqb-false}
 use native.Mathlib.Omega.{arith}
 use Rattle.logic.proofs.Bools.{both, passed, whichever}
-use Rattle.party.specs.Operation.{isPush, neighbour}
+use Rattle.party.specs.Operation.{isPush}
 use Rattle.party.specs.Valid.{isIdle, validOf, placeFits}
 use Rattle.party.specs.declared.Record.{Record}
 use Rattle.party.proofs.Stages.{ValidAt, valid-at}

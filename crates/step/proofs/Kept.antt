@@ -10,7 +10,7 @@ use Rattle.logic.proofs.Bools.{both}
 use Rattle.party.specs.Operation.{isPush}
 use Rattle.party.specs.Record.{again}
 use Rattle.party.specs.Valid.{validOf, placeFits, operationFits}
-use Rattle.party.specs.Answer.{isRefusal, numberOf, carriedOf, refused, Gives, RefusedKeeps}
+use Rattle.party.specs.Answer.{isRefusal, numberOf, carriedOf, Gives, RefusedKeeps}
 use Rattle.party.specs.declared.Record.{Record}
 use Rattle.party.specs.declared.Answered.{Answered}
 use Rattle.party.proofs.Gives.{two-that-keep-it-are-equal}

@@ -11,7 +11,7 @@ use denote.Signature.{shrSliceOf}
 use denote.Builtin.{u8}
 use denote.Triple.Walked.{stay-dropped, goes-dropped, needs}
 use denote.Struct.Laws as LL
-use borrow.Table.Elements.{at, length-take-le, same-len}
+use borrow.Table.Elements.{length-take-le, same-len}
 use borrow.Rule.Array.Share.{room-take}
 use Rattle.lent.proofs.Prelude.{_≡_, refl, List, [], _∷_, URA, fullShare, named, w32, w64, Val, vint, SProp, ent, id⊢}
 use Rattle.lent.proofs.Prelude.{GName, Lft, Share, ftrue, flft, finally, Memory, Routine, Heap, Calls, Loops, WpFn, Tables, Atoms, Fun, givenOf, tables, tablesOf}
