@@ -11,20 +11,20 @@ ghost use Rattle.image.specs.Format.{wordPlace};
 ghost use Rattle.image.specs.Spelling.{wordBytes};
 ghost use Rattle.image.specs.Calls.{headerBytes};
 
-// The mark, the version, the party count and MAX.
+// The mark, the version, the party count and MAX. Public for lay and for writing a whole image, which have checked the length.
 pub fn lay_header(image: &mut [u8], max: u16, parties: u8)
     requires { ⌜ 8 ≤ length (now image) ⌝ }
     ensures { λ _. ⌜ now (image .exit) ≡ sets (now (image .entry)) 0 (headerBytes max parties) ⌝ }
 {
-    image[0] = 80;
-    image[1] = 68;
-    image[2] = 83;
+    image[0] = b'P';
+    image[1] = b'D';
+    image[2] = b'S';
     put_2(image, 3, 1);
     image[5] = parties;
     put_2(image, 6, max);
 }
 
-// LN in every word and idle in every record are zeros.
+// LN in every word and idle in every record are zeros. Lay calls it, past its checks.
 pub fn lay_zeros(image: &mut [u8], at: usize, count: usize)
     requires { ⌜ at + count ≤ length (now image) ⌝ }
     ensures { λ _. ⌜ now (image .exit) ≡ sets (now (image .entry)) at (replicate count 0) ⌝ }
@@ -36,7 +36,7 @@ pub fn lay_zeros(image: &mut [u8], at: usize, count: usize)
     }
 }
 
-// RN past the divide. The loop counts the byte place: with the word's number the compiler needs more.
+// RN past the divide. Lay calls it, past its checks. The loop counts the byte place: with the word's number the compiler needs more.
 pub fn lay_rights(image: &mut [u8], max: u16, divide: u32)
     requires { ⌜ (8 + 8 * (max + 2) ≤ length (now image)) × (divide ≤ max) ⌝ }
     ensures { λ _. ⌜ now (image .exit) ≡ sets (now (image .entry)) (wordPlace (divide + 1)) (wordBytes (rightsOf max divide)) ⌝ }

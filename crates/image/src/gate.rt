@@ -13,7 +13,7 @@ fn is_marked(image: &[u8]) -> bool
     requires { ⌜ 8 ≤ length (now image) ⌝ }
     ensures { λ t. ⌜ t ≡ isMarked (now (image .entry)) ⌝ }
 {
-    (image[0] == 80) & (image[1] == 68) & (image[2] == 83) & (number_2(image, 3) == 1)
+    (image[0] == b'P') & (image[1] == b'D') & (image[2] == b'S') & (number_2(image, 3) == 1)
 }
 
 pub fn sizes_fit(bytes: usize, max: u32, parties: u32) -> bool

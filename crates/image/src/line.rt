@@ -20,6 +20,7 @@ ghost use lib.ListN.{length};
 ghost use Rattle.image.specs.Format.{wordPlace};
 ghost use Rattle.image.specs.Read.{LookMade, SwapMade};
 
+// A look, and what follows it. Step calls it, past its checks.
 pub fn make_look(
     image: &mut [u8],
     at: usize,
@@ -38,7 +39,8 @@ pub fn make_look(
 }
 
 // A swap that lost begins again; one that would win at the counter's end writes nothing; one that won writes word and record.
-// What follows is written out here, not taken from step's `swapped`: the record then need not be built before it is known.
+// Step calls it, past its checks. What follows is written out here, not taken from step's `swapped`: the record then need not be
+// built before it is known.
 pub fn make_swap(
     image: &mut [u8],
     at: usize,

@@ -13,6 +13,7 @@ ghost use lib.ListN.{length};
 ghost use lib.Seq.{sets};
 ghost use Rattle.image.specs.Spelling.{recordAt, recordBytes};
 
+// The record that 24 bytes spell. Public for the calls here and on whole images, which have checked the length.
 pub fn read_record(image: &[u8], at: usize) -> Record
     requires { ⌜ at + 32 ≤ length (now image) ⌝ }
     ensures { λ r. ⌜ r ≡ recordAt (now (image .entry)) at ⌝ }
@@ -27,6 +28,7 @@ pub fn read_record(image: &[u8], at: usize) -> Record
     }
 }
 
+// A record into 24 bytes. Public for the calls here and on whole images, which have checked the length.
 pub fn write_record(image: &mut [u8], at: usize, r: Record)
     requires { ⌜ at + 32 ≤ length (now image) ⌝ }
     ensures { λ _. ⌜ now (image .exit) ≡ sets (now (image .entry)) at (recordBytes r) ⌝ }

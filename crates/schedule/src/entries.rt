@@ -21,7 +21,7 @@ fn party_in_16(e: Entry) -> usize
     party_of(e) as usize % 16
 }
 
-// The entries of a file that was checked, on a strip with every party idle.
+// The entries of a file that list has checked, on a strip with every party idle.
 pub fn run_entries(
     file: &[u8],
     strip: &mut [u64],

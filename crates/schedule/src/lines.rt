@@ -42,7 +42,7 @@ fn put_end(out: &mut [u8], at: usize, t: Turn) -> usize
     put_byte(out, end, 10)
 }
 
-// Entry, party, number, carried order, effect.
+// Entry, party, number, carried order, effect, where there is room.
 pub fn put_line(out: &mut [u8], at: usize, entry: u32, e: Entry, t: Turn) -> usize
     requires { ⌜ Room (lineText entry (askedOf e) (lineIn t)) (now out) at ⌝ }
     ensures { λ next. ⌜ Puts (lineText entry (askedOf e) (lineIn t)) (now (out .entry)) at next (now (out .exit)) ⌝ }
@@ -54,7 +54,7 @@ pub fn put_line(out: &mut [u8], at: usize, entry: u32, e: Entry, t: Turn) -> usi
     put_end(out, end, t)
 }
 
-// MAX, divide, parties.
+// MAX, divide, parties, where there is room.
 pub fn put_header(out: &mut [u8], at: usize, max: u16, divide: u16, parties: u8) -> usize
     requires { ⌜ Room (headerText max divide parties) (now out) at ⌝ }
     ensures { λ next. ⌜ Puts (headerText max divide parties) (now (out .entry)) at next (now (out .exit)) ⌝ }
@@ -90,7 +90,7 @@ fn put_words(out: &mut [u8], at: usize, strip: &[u64]) -> usize
     put_byte(out, next, 10)
 }
 
-// The last line: every word of the strip.
+// The last line: every word of the strip, where there is room.
 pub fn put_cells(out: &mut [u8], at: usize, strip: &[u64]) -> usize
     requires { ⌜ Room (cellsText (now strip)) (now out) at ⌝ }
     ensures { λ next. ⌜ Puts (cellsText (now (strip .entry))) (now (out .entry)) at next (now (out .exit)) ⌝ }

@@ -5,8 +5,7 @@ use logic::pick_u32;
 use party::Answered;
 use party::Record;
 use party::make::refused_with;
-use step::strip_fits;
-use step::table_fits;
+use step::gated;
 ghost use mathlib.Core.Path.{_≡_};
 ghost use mathlib.Core.Bool.{true};
 ghost use lib.ListN.{length};
@@ -51,9 +50,7 @@ fn is_step(e: Entry) -> bool
 fn gate_of(words: usize, parties: u8, e: Entry) -> u32
     ensures { λ n. ⌜ n ≡ gate words parties (askedOf e) ⌝ }
 {
-    let fits = strip_fits(words) & table_fits(parties as usize);
-    let far = pick_u32(parties <= party_of(e), 3, 0);
-    pick_u32(!fits, 1, pick_u32(is_unknown(e), 11, far))
+    gated(words, is_unknown(e), parties as usize, party_of(e) as u32)
 }
 
 // The call on the party's own record.

@@ -6,6 +6,7 @@ ghost use Rattle.schedule.specs.Text.{digitsOf, decimal};
 ghost use Rattle.schedule.specs.Listing.{spaced};
 ghost use Rattle.schedule.specs.Writing.{Room, Puts};
 
+// One byte. The listing calls these where there is room.
 pub fn put_byte(out: &mut [u8], at: usize, byte: u8) -> usize
     requires { ⌜ Room (byte ∷ []) (now out) at ⌝ }
     ensures { λ next. ⌜ Puts (byte ∷ []) (now (out .entry)) at next (now (out .exit)) ⌝ }
@@ -14,6 +15,7 @@ pub fn put_byte(out: &mut [u8], at: usize, byte: u8) -> usize
     at + 1
 }
 
+// A text, where there is room.
 pub fn put_text(out: &mut [u8], at: usize, text: &[u8]) -> usize
     requires { ⌜ Room (now text) (now out) at ⌝ }
     ensures { λ next. ⌜ Puts (now (text .entry)) (now (out .entry)) at next (now (out .exit)) ⌝ }
@@ -44,6 +46,7 @@ fn put_digits(out: &mut [u8], at: usize, most: u8, number: u32) -> usize
     put_byte(out, last, digit(number))
 }
 
+// A number in decimal, where there is room.
 pub fn put_decimal(out: &mut [u8], at: usize, number: u32) -> usize
     requires { ⌜ Room (decimal number) (now out) at ⌝ }
     ensures { λ next. ⌜ Puts (decimal number) (now (out .entry)) at next (now (out .exit)) ⌝ }
@@ -51,7 +54,7 @@ pub fn put_decimal(out: &mut [u8], at: usize, number: u32) -> usize
     put_digits(out, at, 9, number)
 }
 
-// A space and a number.
+// A space and a number, where there is room.
 pub fn put_spaced(out: &mut [u8], at: usize, number: u32) -> usize
     requires { ⌜ Room (spaced number) (now out) at ⌝ }
     ensures { λ next. ⌜ Puts (spaced number) (now (out .entry)) at next (now (out .exit)) ⌝ }

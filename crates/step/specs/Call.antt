@@ -41,11 +41,14 @@ Fitting (step party hint) = Unit {0}
 Fitting (withdraw party) = Unit {0}
 
 -- the checks before the record's own: sizes, operation, party number
-unfoldable pub gate : (words parties : ℕ) → Call → ℕ
-gate words parties call =
+abbrev pub gateOf : (words parties : ℕ) (unknown : Bool) (party : ℕ) → ℕ
+gateOf words parties unknown party =
     pick (not (stripFits words && tableFits parties)) 1
-    (pick (isUnknown call) 11
-    (pick (leb parties (partyOf call)) 3 0))
+    (pick unknown 11
+    (pick (leb parties party) 3 0))
+
+unfoldable pub gate : (words parties : ℕ) → Call → ℕ
+gate words parties call = gateOf words parties (isUnknown call) (partyOf call)
 
 -- the call on the party's own record
 abbrev pub ownOf : (strip : List ℕ) → Record → Call → Answered

@@ -13,7 +13,7 @@ use Rattle.word.specs.Word.{RN}
 use Rattle.step.specs.Step.{stripFits}
 use Rattle.strip.specs.Plain.{Plain}
 use Rattle.strip.specs.Shape.{StandsFor, Shaped, valueAt, Bounds, plainBetween}
-use Rattle.strip.specs.Measure.{runOf, isLeft, isOrder, isRight, lefts, orders, rights, isShaped, measureOf}
+use Rattle.strip.specs.Measure.{runOf, isLN, isOrder, isRN, lefts, orders, rights, isShaped, measureOf}
 use Rattle.strip.specs.Measure.{measuredNumber, measuredLeft, measuredOrders, measuredRight}
 use Rattle.strip.specs.declared.Measured.the-variants.{Shape}
 use Rattle.strip.proofs.Running.{run-stops, run-ends, run-between, run-passes}
@@ -24,8 +24,8 @@ use Rattle.strip.proofs.Shapes.{strip-length, stands-for-bounds, bounds
 module _ (strip : List ℕ) (lo hi : ℕ) (b : Bounds strip lo hi) where
   on-left : lefts strip ≡ lo
   on-left =
-      run-between isLeft strip lo 0 lo (omega arith) (omega arith) (λ i l h. eq-eqb _ _ (b .lefts i h))
-      (run-stops isLeft strip lo (omega arith) (ne-eqb _ _ (past-left strip lo hi b lo (omega arith) (omega arith))))
+      run-between isLN strip lo 0 lo (omega arith) (omega arith) (λ i l h. eq-eqb _ _ (b .lefts i h))
+      (run-stops isLN strip lo (omega arith) (ne-eqb _ _ (past-left strip lo hi b lo (omega arith) (omega arith))))
 
   between : runOf isOrder (drop lo strip) ≡ hi - lo
   between =
@@ -33,10 +33,10 @@ module _ (strip : List ℕ) (lo hi : ℕ) (b : Bounds strip lo hi) where
       run-between isOrder strip (hi - lo) lo hi (omega arith) (omega arith) (λ i l h. le-leb _ _ (b .orders i l h))
       (run-stops isOrder strip hi (omega arith) (lt-leb 3 (valueAt strip hi) (omega arith)))
 
-  on-right : runOf isRight (drop hi strip) ≡ length strip - hi
+  on-right : runOf isRN (drop hi strip) ≡ length strip - hi
   on-right =
-      run-between isRight strip (length strip - hi) hi (length strip) (omega arith) (omega arith)
-      (λ i l h. eq-eqb _ _ (b .rights i l h)) (run-ends isRight strip (length strip) (omega arith))
+      run-between isRN strip (length strip - hi) hi (length strip) (omega arith) (omega arith)
+      (λ i l h. eq-eqb _ _ (b .rights i l h)) (run-ends isRN strip (length strip) (omega arith))
 
   counts : Counted strip lo (hi - lo) (length strip - hi)
   counts =
@@ -82,9 +82,9 @@ module _ (strip : List ℕ) (shaped : isShaped strip ≡ true) where
         some-left = some .0;
         in-order = omega arith;
         some-right = omega (arith, some);
-        lefts = λ i h. eqb-true _ _ (passed-at isLeft 0 i (omega arith) (omega arith));
+        lefts = λ i h. eqb-true _ _ (passed-at isLN 0 i (omega arith) (omega arith));
         orders = λ i low h. leb-true _ _ (passed-at isOrder l i low h);
-        rights = λ i low h. eqb-true _ _ (passed-at isRight (l + n) i low (omega (arith, some)));
+        rights = λ i low h. eqb-true _ _ (passed-at isRN (l + n) i low (omega (arith, some)));
       }
 
 -- Measure's three numbers are those of the plain strip that the words stand for.

@@ -11,7 +11,7 @@ use native.Mathlib.Numerals.{add-one}
 use native.Mathlib.Omega.{arith}
 use Rattle.logic.specs.Pick.{pick}
 use Rattle.word.specs.Word.{valueOf}
-use Rattle.strip.specs.Measure.{runOf, isLeft, isOrder, isRight, isWithin}
+use Rattle.strip.specs.Measure.{runOf, isLN, isOrder, isRN, isWithin}
 
 module _ (test : ℕ → Bool) where
   module _ (strip : List ℕ) (i : ℕ) where
@@ -65,10 +65,10 @@ module _ (v : ℕ) where
   within-top : (top : ℕ) → v ≤ top → leb 3 v && leb v top ≡ leb 3 v
   within-top top below = simp (le-leb v top below, and-true)
 
-pub within-left : isWithin 0 0 ≡ isLeft
+pub within-left : isWithin 0 0 ≡ isLN
 within-left = fun-ext (λ word. within-one (valueOf word) 0)
 
-pub within-right : isWithin 1 1 ≡ isRight
+pub within-right : isWithin 1 1 ≡ isRN
 within-right = fun-ext (λ word. within-one (valueOf word) 1)
 
 pub within-orders : isWithin 3 4294967295 ≡ isOrder

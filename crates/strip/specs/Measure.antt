@@ -16,14 +16,14 @@ unfoldable pub runOf : (test : ℕ → Bool) → List ℕ → ℕ
 runOf test [] = 0
 runOf test (word ∷ words) = pick (test word) (suc (runOf test words)) 0
 
-abbrev pub isLeft : ℕ → Bool
-isLeft word = eqb (valueOf word) LN
+abbrev pub isLN : ℕ → Bool
+isLN word = eqb (valueOf word) LN
 
 abbrev pub isOrder : ℕ → Bool
 isOrder word = leb 3 (valueOf word)
 
-abbrev pub isRight : ℕ → Bool
-isRight word = eqb (valueOf word) RN
+abbrev pub isRN : ℕ → Bool
+isRN word = eqb (valueOf word) RN
 
 -- a value from low to high: the code counts each of the three runs so
 abbrev pub isWithin : (low high : ℕ) → ℕ → Bool
@@ -31,13 +31,13 @@ isWithin low high word = leb low (valueOf word) && leb (valueOf word) high
 
 -- the run of LN at the front, of orders after it, and of RN after those
 abbrev pub lefts : List ℕ → ℕ
-lefts strip = runOf isLeft strip
+lefts strip = runOf isLN strip
 
 abbrev pub orders : List ℕ → ℕ
 orders strip = runOf isOrder (drop (lefts strip) strip)
 
 abbrev pub rights : List ℕ → ℕ
-rights strip = runOf isRight (drop (lefts strip + orders strip) strip)
+rights strip = runOf isRN (drop (lefts strip + orders strip) strip)
 
 -- one or more LN, then orders, then one or more RN, and nothing after them
 abbrev pub isShaped : List ℕ → Bool

@@ -2,13 +2,9 @@
 use Prim.Native.Nat.{ℕ, _+_}
 use mathlib.Core.Path.{_≡_}
 use mathlib.Core.List.{List, [], _∷_}
-use mathlib.Core.Bool.{Bool, not, _&&_}
 use lib.ListN.{replicate}
-use lib.Dec.{leb}
-use Rattle.logic.specs.Pick.{pick}
 use Rattle.party.specs.declared.Record.{Record}
-use Rattle.step.specs.Step.{stripFits}
-use Rattle.step.specs.Call.{Call, tableFits, callOf}
+use Rattle.step.specs.Call.{Call, callOf}
 use Rattle.table.specs.Said.{saidOf}
 use Rattle.table.specs.declared.Said.{Said}
 
@@ -29,8 +25,3 @@ blank max = replicate (max + 2) 0
 
 abbrev pub DoesAtMax : (max : ℕ) (table : List Record) (call : Call) (said : Said) (left : List Record) → Type 0
 DoesAtMax max table call said left = Does (blank max) table call said (blank max) left
-
--- the checks before the record's own, from their numbers: what `gate` of a call computes to
-abbrev pub gateOf : (words parties : ℕ) (unknown : Bool) (party : ℕ) → ℕ
-gateOf words parties unknown party =
-    pick (not (stripFits words && tableFits parties)) 1 (pick unknown 11 (pick (leb parties party) 3 0))

@@ -1,11 +1,9 @@
 // The lent table of records: start, step and withdraw of the numbered party, where its record stands; and of one record that is
 // lent alone. The work is done by functions that take and give the record by value.
-use logic::pick_u32;
 use party::Answer;
 use party::Answered;
 use party::Record;
-use step::strip_fits;
-use step::table_fits;
+use step::gated;
 ghost use mathlib.Core.Path.{_≡_};
 ghost use Prim.Native.Nat.{_+_};
 ghost use Rattle.party.specs.Calls.{startOf, withdrawOf};
@@ -13,7 +11,7 @@ ghost use Rattle.step.specs.Step.{stepOf, stepLeaves};
 ghost use Rattle.step.specs.Call.{gate};
 ghost use Rattle.step.specs.Call.Call.{start, step, withdraw};
 ghost use Rattle.table.specs.Said.{saidOf, toldOf};
-ghost use Rattle.table.specs.Lent.{gateOf, alone, Does, DoesAtMax};
+ghost use Rattle.table.specs.Lent.{alone, Does, DoesAtMax};
 
 // What a call says: document 01's number, and the carried order.
 pub struct Said {
@@ -64,17 +62,6 @@ fn withdraw_told(max: u32, r: Record) -> Told
     ensures { λ t. ⌜ t ≡ toldOf (withdrawOf max r) ⌝ }
 {
     tell(party::withdraw(max, r))
-}
-
-fn gated(words: usize, unknown: bool, parties: usize, party: u32) -> u32
-    ensures { λ n. ⌜ n ≡ gateOf words parties unknown party ⌝ }
-{
-    let absent = pick_u32(parties <= party as usize, 3, 0);
-    pick_u32(
-        !(strip_fits(words) & table_fits(parties)),
-        1,
-        pick_u32(unknown, 11, absent),
-    )
 }
 
 // The checks before the record's own. A step's hint and a start's order play no part in them.

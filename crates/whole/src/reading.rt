@@ -6,6 +6,7 @@ use little::number_8;
 use party::Record;
 use party::valid::is_valid;
 use step::strip_fits;
+use step::table_fits;
 ghost use mathlib.Core.Path.{_≡_};
 ghost use Prim.Native.Nat.{_+_, _*_, _≤_};
 ghost use lib.ListN.{length};
@@ -16,7 +17,7 @@ ghost use Rattle.whole.specs.Whole.{allBelow, lentFits, isSound, readRef
 pub fn lent_fits(words: usize, parties: usize) -> bool
     ensures { λ t. ⌜ t ≡ lentFits words parties ⌝ }
 {
-    strip_fits(words) & ((1 <= parties) & (parties <= 16))
+    strip_fits(words) & table_fits(parties)
 }
 
 fn is_sound(image: &[u8], max: u16, party: usize) -> bool
@@ -60,6 +61,7 @@ pub fn read_refusal(image: &[u8], words: usize, parties: usize) -> u32
     0
 }
 
+// The words. Read calls it, past its checks.
 pub fn read_strip(image: &[u8], strip: &mut [u64])
     requires { ⌜ 8 + 8 * length (now strip) ≤ length (now image) ⌝ }
     ensures { λ _. ⌜ now (strip .exit) ≡ wordsFrom (now (image .entry)) 8 (length (now (strip .entry))) ⌝ }
@@ -71,6 +73,7 @@ pub fn read_strip(image: &[u8], strip: &mut [u64])
     }
 }
 
+// A party's record. Read calls it, past its checks.
 pub fn record_in(image: &[u8], words: usize, party: usize) -> Record
     requires { ⌜ 8 + 8 * words + 32 * party + 32 ≤ length (now image) ⌝ }
     ensures { λ r. ⌜ r ≡ recordAt (now (image .entry)) (8 + 8 * words + 32 * party) ⌝ }

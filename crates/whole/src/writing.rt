@@ -28,7 +28,7 @@ pub fn sizes_refusal(bytes: usize, words: usize, parties: usize) -> u32
     pick_u32(!(bytes == 8 + 8 * words + 32 * parties), 1, 0)
 }
 
-// The number so far, and 4 from the first record on that is not valid.
+// The number so far, and 4 from the first record on that is not valid. Write calls it, past its checks of the sizes.
 pub fn next_refusal(number: u32, words: usize, r: Record) -> u32
     requires { ⌜ (2 ≤ words) × (words ≤ 4096) ⌝ }
     ensures { λ n. ⌜ n ≡ pick (validOf (maxOf words) r) number 4 ⌝ }
@@ -47,7 +47,7 @@ fn write_words(image: &mut [u8], strip: &[u64])
     }
 }
 
-// The header and the words.
+// The header and the words. Write calls it, past its checks.
 pub fn write_front(image: &mut [u8], strip: &[u64], parties: usize)
     requires { ⌜ (8 + 8 * length (now strip) ≤ length (now image)) × ((2 ≤ length (now strip)) × ((length (now strip) ≤ 4096) × (parties ≤ 16))) ⌝ }
     ensures { λ _. ⌜ now (image .exit) ≡ sets (sets (now (image .entry)) 0 (headerBytes (maxOf (length (now (strip .entry)))) parties)) 8 (wordBytes (now (strip .entry))) ⌝ }
@@ -56,7 +56,7 @@ pub fn write_front(image: &mut [u8], strip: &[u64], parties: usize)
     write_words(image, strip);
 }
 
-// A party's 32 bytes.
+// A party's 32 bytes. Write calls it, past its checks.
 pub fn write_party(image: &mut [u8], words: usize, party: usize, r: Record)
     requires { ⌜ 8 + 8 * words + 32 * party + 32 ≤ length (now image) ⌝ }
     ensures { λ _. ⌜ now (image .exit) ≡ sets (now (image .entry)) (8 + 8 * words + 32 * party) (partyBytes r) ⌝ }
