@@ -14,17 +14,17 @@ use Rattle.word.proofs.Laws.{SwapGoes, swap-goes}
 use Rattle.party.specs.Operation.{isRight}
 use Rattle.party.specs.Record.{again}
 use Rattle.party.specs.Valid.{isIdle}
-use Rattle.party.specs.Answer.{isRefusal, numberOf, goesOn}
+use Rattle.party.specs.Answer.{isRefusal, numberOf, goingOn}
 use Rattle.party.specs.declared.Record.{Record}
 use Rattle.party.specs.declared.Answered.{Answered}
-use Rattle.step.specs.Table.{lineOf}
+use Rattle.step.specs.Stages.{accessOf}
 use Rattle.step.specs.Follow.{judgeOf, recheckOf, wonOf, swappedOf}
 use Rattle.step.specs.Step.{maxOf, stepRefusal, stepOf, stepLeaves}
 use Rattle.step.specs.declared.AfterSwap.{AfterSwap}
 use Rattle.step.specs.declared.AfterSwap.the-variants.{Onward, Push, Pop}
 use Rattle.party.proofs.Stages.{ValidAt, valid-at}
 use Rattle.step.proofs.Cleared.{steppable}
-use Rattle.step.proofs.Lines.{when-refused}
+use Rattle.step.proofs.Accesses.{when-refused}
 use Rattle.step.proofs.Went.{refusal-is}
 use Rattle.figure.specs.Figure.{element, Next, leads, ifCAS}
 use Rattle.figure.specs.Reading.{elementOf, elements, Reaches, Matches, IsTheLine}
@@ -45,7 +45,7 @@ judged false false p q = q
 -- a swap is a CAS; it is not refused, so its counter is not at its end
 swapped-is-CAS : (strip : List ℕ) (place from to : ℕ) (r : Record) (then : AfterSwap) (succeeds fails : Next) → to < 4294967296
     → isRefusal (numberOf (swappedOf r then (swapOf (getD strip place 0) from) .answer)) ≡ false
-    → Reaches succeeds (wonOf r then) → Reaches fails (goesOn (again r))
+    → Reaches succeeds (wonOf r then) → Reaches fails (goingOn (again r))
     → Matches (ifCAS (elements strip) place (elementOf from) (element to (counterOf from + 1)) succeeds fails)
     (swappedOf r then (swapOf (getD strip place 0) from))
     (wordsAfter (swapOf (getD strip place 0) from) strip place (raisedTo from to))
@@ -77,17 +77,17 @@ module _ (strip : List ℕ) (hint k v first second : ℕ) where
   pop stage = record { operation = 1; stage = stage; k = k; v = v; first = first; second = second }
 
   stage-1-is-RH2 : StepIsLine strip hint (push 1)
-  unfolding stepOf stepLeaves lineOf
+  unfolding stepOf stepLeaves accessOf
   stage-1-is-RH2 passes goes =
       rw (passes, element-at strip (hint - 1)) (record { array = refl; next = Reaches.goes-on refl (λ h. refl) })
 
   stage-1-is-RP2 : StepIsLine strip hint (pop 1)
-  unfolding stepOf stepLeaves lineOf
+  unfolding stepOf stepLeaves accessOf
   stage-1-is-RP2 passes goes =
       rw (passes, element-at strip (hint - 1)) (record { array = refl; next = Reaches.goes-on refl (λ h. refl) })
 
   stage-2-is-RH3 : StepIsLine strip hint (push 2)
-  unfolding stepOf stepLeaves lineOf judgeOf
+  unfolding stepOf stepLeaves accessOf judgeOf
   stage-2-is-RH3 passes goes =
       rw (passes, element-at strip k)
       (record {
@@ -99,7 +99,7 @@ module _ (strip : List ℕ) (hint k v first second : ℕ) where
       })
 
   stage-2-is-RP3 : StepIsLine strip hint (pop 2)
-  unfolding stepOf stepLeaves lineOf judgeOf
+  unfolding stepOf stepLeaves accessOf judgeOf
   stage-2-is-RP3 passes goes =
       rw (passes, element-at strip k)
       (record {
@@ -111,35 +111,35 @@ module _ (strip : List ℕ) (hint k v first second : ℕ) where
       })
 
   stage-3-is-RP5 : StepIsLine strip hint (pop 3)
-  unfolding stepOf stepLeaves lineOf recheckOf
+  unfolding stepOf stepLeaves accessOf recheckOf
   stage-3-is-RP5 passes goes =
       let met = getD strip (k - 1) 0 in
       rw (passes, element-at strip (k - 1), same-is-whole met first)
       (record { array = refl; next = either (eqb met first) (Reaches.emptied refl refl) (Reaches.goes-on refl (λ h. refl)) })
 
   stage-4-is-RH6 : StepIsLine strip hint (push 4)
-  unfolding stepOf stepLeaves lineOf
+  unfolding stepOf stepLeaves accessOf
   stage-4-is-RH6 passes goes =
       rw passes
       (swapped-is-CAS strip (k - 1) first (valueOf first) (push 4) Onward _ _ (omega arith) (rw passes at goes)
       (Reaches.goes-on refl (λ h. refl)) (Reaches.goes-on refl (λ h. refl)))
 
   stage-4-is-RP7 : StepIsLine strip hint (pop 4)
-  unfolding stepOf stepLeaves lineOf
+  unfolding stepOf stepLeaves accessOf
   stage-4-is-RP7 passes goes =
       rw passes
       (swapped-is-CAS strip k second RN (pop 4) Onward _ _ (omega arith) (rw passes at goes)
       (Reaches.goes-on refl (λ h. refl)) (Reaches.goes-on refl (λ h. refl)))
 
   stage-5-is-RH7 : v < 4294967296 → StepIsLine strip hint (push 5)
-  unfolding stepOf stepLeaves lineOf
+  unfolding stepOf stepLeaves accessOf
   stage-5-is-RH7 fits passes goes =
       rw passes
       (swapped-is-CAS strip k second v (push 5) Push _ _ fits (rw passes at goes)
       (Reaches.pushed refl refl) (Reaches.goes-on refl (λ h. refl)))
 
   stage-5-is-RP8 : StepIsLine strip hint (pop 5)
-  unfolding stepOf stepLeaves lineOf
+  unfolding stepOf stepLeaves accessOf
   stage-5-is-RP8 passes goes =
       rw passes
       (swapped-is-CAS strip (k - 1) first RN (pop 5) Pop _ _ (omega arith) (rw passes at goes)

@@ -10,7 +10,7 @@ use native.Mathlib.Omega.{arith}
 use Rattle.logic.specs.Pick.{pick}
 use Rattle.party.specs.Operation.{isRight}
 use Rattle.strip.specs.Plain.{Plain}
-use Rattle.fresh.specs.Play.{added, endOrder, removed}
+use Rattle.invariant.specs.Play.{added, endOrder, removed}
 use Rattle.placing.specs.Placing.{total, inOrder, Plays}
 use Rattle.placing.proofs.Totals.{total-of-both, none-is-left-out}
 use Rattle.history.specs.Finished.{Finished}

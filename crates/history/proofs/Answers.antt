@@ -11,7 +11,7 @@ use Rattle.party.specs.Operation.{isPush}
 use Rattle.party.specs.Answer.{numberOf, carriedOf}
 use Rattle.party.specs.declared.Answer.the-variants.{Pushed, Popped, Full, Empty}
 use Rattle.strip.specs.Plain.{Plain}
-use Rattle.fresh.specs.Play.{Played, room, added, endOrder, removed, play}
+use Rattle.invariant.specs.Play.{Played, room, added, endOrder, removed, play}
 use Rattle.history.specs.Finished.{Finished}
 use Rattle.history.specs.Explained.{Gives}
 

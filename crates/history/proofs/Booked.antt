@@ -12,11 +12,11 @@ use Rattle.logic.proofs.Bools.{both, whichever}
 use Rattle.party.specs.Record.{idle}
 use Rattle.party.specs.declared.Record.{Record}
 use Rattle.step.specs.Call.{Call, partyOf}
-use Rattle.fresh.proofs.Kept.{table-stays-as-long}
+use Rattle.invariant.proofs.Kept.{table-stays-as-long}
 use Rattle.history.specs.Run.{State, begin, goesOn, looked, lineOf, leaves}
 use Rattle.history.specs.Finished.{Asked, nothingYet, askedAfter}
 use Rattle.history.proofs.Lists.{all-the-same}
-use Rattle.history.proofs.Parties.{numberAt, looksNow, After, after-entry, look-after}
+use Rattle.history.proofs.Parties.{numberIn, looksNow, After, after-entry, look-after}
 
 pub record Asks (n : ℕ) (a : Asked) (r : Record) : Type 0 where
   pub operation : a .operation ≡ r .operation
@@ -72,7 +72,7 @@ module _ (n : ℕ) (s : State) (asked : List Asked) (booked : Booked n s asked) 
       is = look-after s n (booked .looks-size) call i
 
       go : (now : Bool) → looksNow s call i ≡ now → Next i → LastLook s n call i
-      go true e after = new e (eqb-true i (partyOf call) (both (looked s call (numberAt s call)) _ e .1)) (rw e at is)
+      go true e after = new e (eqb-true i (partyOf call) (both (looked s call (numberIn s call)) _ e .1)) (rw e at is)
       go false e (After.idles ended) = absurd (let at : 2 ≤ 0 = rw ended at on in omega arith)
       go false e (After.begins operation order begun-is asked-is) = absurd (let at : 2 ≤ 1 = rw begun-is at on in omega arith)
       go false e (After.carries same operation v busy second) = old e (rw e at is) (second e on)
@@ -111,7 +111,7 @@ module _ (n : ℕ) (s : State) (asked : List Asked) (booked : Booked n s asked) 
   booked-next =
       record {
         looks-size =
-            whichever (λ (l : List ℕ). length l ≡ length (s .looks)) (looked s call (numberAt s call))
+            whichever (λ (l : List ℕ). length l ≡ length (s .looks)) (looked s call (numberIn s call))
             (length-set (s .looks) (partyOf call) n) refl
             ∙ booked .looks-size ∙ sym (table-stays-as-long (s .strip) (s .table) call);
         asked-size = asked-size-after s n asked call ∙ booked .asked-size ∙ sym (table-stays-as-long (s .strip) (s .table) call);

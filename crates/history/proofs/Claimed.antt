@@ -18,7 +18,7 @@ use Rattle.history.specs.Run.{State, lineOf, leaves}
 use Rattle.history.specs.Finished.{Asked, Finished, nothingYet, isResult, finish, finishedAt}
 use Rattle.history.specs.Explained.{Between, none}
 use Rattle.history.proofs.Lists.{every-one, every-both}
-use Rattle.history.proofs.Parties.{numberAt}
+use Rattle.history.proofs.Parties.{numberIn}
 use Rattle.history.proofs.Results.{Ended, looked-before, a-result-ends}
 use Rattle.history.proofs.Booked.{Booked, LastLook, last-look}
 
@@ -72,7 +72,7 @@ module _ (n : ℕ) (s : State) (asked : List Asked) (booked : Booked n s asked) 
   took-effect ended = go (eqb number 18 || eqb number 19) refl
     where
       number : ℕ
-      number = numberAt s call
+      number = numberIn s call
 
       go : (recalled : Bool) → (eqb number 18 || eqb number 19) ≡ recalled
           → TookEffect s n call (pick recalled (getD (s .looks) (partyOf call) 0) n)
@@ -120,7 +120,7 @@ module _ (n : ℕ) (s : State) (asked : List Asked) (booked : Booked n s asked) 
         }
 
     -- one that finishes an operation
-    module _ (result : isResult (numberAt s call) ≡ true) where
+    module _ (result : isResult (numberIn s call) ≡ true) where
       ended : Ended s n call
       ended = a-result-ends s n call result
 
@@ -161,9 +161,9 @@ module _ (n : ℕ) (s : State) (asked : List Asked) (booked : Booked n s asked) 
 
     pub claimed-next : Claimed (suc n) (leaves s n call) (done ++ finishedAt asked n call (lineOf s n call))
     unfolding lineOf
-    claimed-next = go (isResult (numberAt s call)) refl
+    claimed-next = go (isResult (numberIn s call)) refl
       where
-        go : (result : Bool) → isResult (numberAt s call) ≡ result
+        go : (result : Bool) → isResult (numberIn s call) ≡ result
             → Claimed (suc n) (leaves s n call) (done ++ pick result (line-finished ∷ []) [])
         go true e = claims-more e
         go false e = rw (append-nil done) claims-kept

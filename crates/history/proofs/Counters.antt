@@ -9,9 +9,9 @@ use Rattle.logic.specs.Every.{Every}
 use Rattle.word.specs.Word.{counterOf}
 use Rattle.step.specs.Step.{stripFits}
 use Rattle.step.specs.Call.{Call, Fitting}
-use Rattle.fresh.specs.Invariant.{Sane}
-use Rattle.fresh.proofs.Kept.{sane-kept}
-use Rattle.fresh.proofs.Writes.{IsWord, strip-stays-as-long, no-counter-falls, no-counter-comes-round}
+use Rattle.invariant.specs.Invariant.{Sane}
+use Rattle.invariant.proofs.Kept.{sane-kept}
+use Rattle.invariant.proofs.Writes.{IsWord, strip-stays-as-long, no-counter-falls, no-counter-comes-round}
 use Rattle.history.specs.Run.{State, leaves, endFrom, noCall}
 
 pub the-strip-stays-as-long : (s : State) (entry : ℕ) (calls : List Call)

@@ -10,7 +10,7 @@ use native.Mathlib.Omega.{arith}
 use Rattle.logic.specs.Pick.{pick}
 use Rattle.party.specs.Operation.{isRight, isPush}
 use Rattle.strip.specs.Plain.{Plain}
-use Rattle.fresh.specs.Play.{room, removed}
+use Rattle.invariant.specs.Play.{room, removed}
 use Rattle.placing.specs.Placing.{inOrder, Plays}
 use Rattle.placing.proofs.Before.{each-answers-the-state-before}
 use Rattle.history.specs.Finished.{Finished}

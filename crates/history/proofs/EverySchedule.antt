@@ -19,8 +19,8 @@ use Rattle.strip.specs.declared.Measured.the-variants.{Shape}
 use Rattle.strip.proofs.Laying.{fresh-length}
 use Rattle.strip.proofs.Values.{fresh-stands-for}
 use Rattle.strip.proofs.MeasureShapes.{measure-gives-the-plain-strip}
-use Rattle.fresh.proofs.Begin.{idle-is-sane}
-use Rattle.fresh.proofs.Writes.{IsWord}
+use Rattle.invariant.proofs.Begin.{idle-is-sane}
+use Rattle.invariant.proofs.Writes.{IsWord}
 use Rattle.placing.specs.Placing.{total}
 use Rattle.history.specs.Run.{begin, linesFrom, endFrom, noCall}
 use Rattle.history.specs.Finished.{Finished, finishedOf}

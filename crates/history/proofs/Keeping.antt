@@ -12,17 +12,17 @@ use Rattle.step.specs.Step.{stripFits}
 use Rattle.step.specs.Call.{Call, Fitting, partyOf, callOf}
 use Rattle.strip.specs.Plain.{Plain}
 use Rattle.strip.specs.Shape.{StandsFor}
-use Rattle.fresh.specs.Invariant.{Sane}
-use Rattle.fresh.specs.Remembered.{Remembers}
-use Rattle.fresh.proofs.Begin.{idle-is-sane}
-use Rattle.fresh.proofs.Kept.{sane-kept, table-stays-as-long}
-use Rattle.fresh.proofs.Writes.{strip-stays-as-long}
-use Rattle.fresh.proofs.Does.{Does, does}
-use Rattle.fresh.proofs.Looks.{idle-remembers}
-use Rattle.fresh.proofs.Remembers.{look-remembers, remembers-kept}
+use Rattle.invariant.specs.Invariant.{Sane}
+use Rattle.invariant.specs.Remembered.{Remembers}
+use Rattle.invariant.proofs.Begin.{idle-is-sane}
+use Rattle.invariant.proofs.Kept.{sane-kept, table-stays-as-long}
+use Rattle.invariant.proofs.Writes.{strip-stays-as-long}
+use Rattle.invariant.proofs.Does.{Does, does}
+use Rattle.invariant.proofs.Looks.{idle-remembers}
+use Rattle.invariant.proofs.Remembers.{look-remembers, remembers-kept}
 use Rattle.history.specs.Run.{State, leaves, looked}
 use Rattle.history.proofs.Lists.{all-the-same}
-use Rattle.history.proofs.Parties.{numberAt, looksNow, look-is-a-step, step-looks-now}
+use Rattle.history.proofs.Parties.{numberIn, looksNow, look-is-a-step, step-looks-now}
 use Rattle.history.proofs.Machine.{Says, thensAfter, Goes, Machine}
 
 pub record Keeps (s : State) (p : Plain) (thens : ℕ → Plain) : Type 0 where
@@ -41,7 +41,7 @@ module _ (s : State) (p : Plain) (thens : ℕ → Plain) (keeps : Keeps s p then
       go : (now : Bool) → looksNow s call i ≡ now
           → Remembers (callOf (s .strip) (s .table) call .strip) (getD (callOf (s .strip) (s .table) call .table) i idle) (pick now p (thens i))
       go true e =
-          let each = both (looked s call (numberAt s call)) (eqb i (partyOf call)) e in
+          let each = both (looked s call (numberIn s call)) (eqb i (partyOf call)) e in
           let step = look-is-a-step s call (each .0) in
           rw (eqb-true i (partyOf call) (each .1))
           (look-remembers (s .strip) (s .table) call p (keeps .fits) (keeps .sane) (keeps .stands) (partyOf call) (step .0) (step .1) (step .2))
@@ -68,7 +68,7 @@ module _ (s : State) (p : Plain) (thens : ℕ → Plain) (keeps : Keeps s p then
       go (Does.quiet small stands) =
           record {
             next = p;
-            says = Says.quiet (rw (lt-leb 16 (numberAt s call) small) refl) refl;
+            says = Says.quiet (rw (lt-leb 16 (numberIn s call) small) refl) refl;
             kept = λ entry. keeps-after p entry stands;
           }
       go (Does.acts party hint is known which q plays stands) =

@@ -15,7 +15,7 @@ use Rattle.party.specs.Answer.{isRefusal}
 use Rattle.party.specs.declared.Record.{Record}
 use Rattle.step.specs.Call.{Call, partyOf}
 use Rattle.history.specs.Run.{State, begin, leaves, lineOf, looked}
-use Rattle.history.proofs.Parties.{numberAt, looksNow, look-is-a-step, look-after}
+use Rattle.history.proofs.Parties.{numberIn, looksNow, look-is-a-step, look-after}
 use Rattle.history.proofs.Since.{Since, Early, since}
 use Rattle.history.proofs.Results.{a-result-ends}
 use Rattle.history.proofs.Entries.{stateAt}
@@ -33,12 +33,12 @@ one-longer P e n before last m after within = go (eqb m n) refl
     go false t = let other = eqb-false m n t in before m after (omega arith)
 
 -- whose call was refused has not looked
-refused-unlooked : (s : State) (call : Call) (i : ℕ) → (partyOf call ≡ i → isRefusal (numberAt s call) ≡ true) → looksNow s call i ≡ false
+refused-unlooked : (s : State) (call : Call) (i : ℕ) → (partyOf call ≡ i → isRefusal (numberIn s call) ≡ true) → looksNow s call i ≡ false
 refused-unlooked s call i refused = go (looksNow s call i) refl
   where
     go : (now : Bool) → looksNow s call i ≡ now → now ≡ false
     go true e =
-        let each = both (looked s call (numberAt s call)) (eqb i (partyOf call)) e in
+        let each = both (looked s call (numberIn s call)) (eqb i (partyOf call)) e in
         let none = look-is-a-step s call (each .0) .2 in
         absurd (true≢false (sym (refused (sym (eqb-true i (partyOf call) (each .1)))) ∙ rw none refl))
     go false e = refl
@@ -55,7 +55,7 @@ module _ (strip : List ℕ) (parties : ℕ) (call : ℕ → Call) where
   pub record LookedAt (n i e : ℕ) : Type 0 where
     pub own : partyOf (call e) ≡ i
     pub from-stage : recordAt n i .stage ≡ suc (recordAt e i .stage)
-    pub refused-since : (m : ℕ) → e < m → m < n → partyOf (call m) ≡ i → isRefusal (numberAt (at m) (call m)) ≡ true
+    pub refused-since : (m : ℕ) → e < m → m < n → partyOf (call m) ≡ i → isRefusal (numberIn (at m) (call m)) ≡ true
 
   looked-at : (n i : ℕ) → Early (recordAt n i) → LookedAt n i (getD (at n .looks) i 0)
   unfolding stateAt
@@ -68,7 +68,7 @@ module _ (strip : List ℕ) (parties : ℕ) (call : ℕ → Call) where
       go : Since (at n) (call n) i (recordAt n i) (getD (leaves (at n) n (call n) .table) i idle)
           → (Early (recordAt n i) → LookedAt n i (getD (at n .looks) i 0)) → LookedAt (suc n) i (getD (leaves (at n) n (call n) .looks) i 0)
       go (Since.now looks from) before =
-          let each = both (looked (at n) (call n) (numberAt (at n) (call n))) (eqb i (partyOf (call n))) looks in
+          let each = both (looked (at n) (call n) (numberIn (at n) (call n))) (eqb i (partyOf (call n))) looks in
           rw (look-is, looks)
           (record {
             own = sym (eqb-true i (partyOf (call n)) (each .1));
@@ -82,7 +82,7 @@ module _ (strip : List ℕ) (parties : ℕ) (call : ℕ → Call) where
             own = was .own;
             from-stage = ap (λ (r : Record). r .stage) same ∙ was .from-stage;
             refused-since =
-                one-longer (λ (m : ℕ). partyOf (call m) ≡ i → isRefusal (numberAt (at m) (call m)) ≡ true) (getD (at n .looks) i 0) n
+                one-longer (λ (m : ℕ). partyOf (call m) ≡ i → isRefusal (numberIn (at m) (call m)) ≡ true) (getD (at n .looks) i 0) n
                 (was .refused-since) refused;
           })
 
@@ -91,7 +91,7 @@ module _ (strip : List ℕ) (parties : ℕ) (call : ℕ → Call) where
   effectAt n = lineOf (at n) n (call n) .effect
 
   -- FULL: at that attempt's stage 1 read.
-  pub full-took-effect-at-the-stage-1-read : (n : ℕ) → numberAt (at n) (call n) ≡ 18
+  pub full-took-effect-at-the-stage-1-read : (n : ℕ) → numberIn (at n) (call n) ≡ 18
       → LookedAt n (partyOf (call n)) (effectAt n) × (recordAt (effectAt n) (partyOf (call n)) .stage ≡ 1)
   unfolding lineOf
   full-took-effect-at-the-stage-1-read n full =
@@ -100,7 +100,7 @@ module _ (strip : List ℕ) (parties : ℕ) (call : ℕ → Call) where
       rw full (looked-so, omega (arith, looked-so .from-stage))
 
   -- EMPTY: at that attempt's stage 2 read.
-  pub empty-took-effect-at-the-stage-2-read : (n : ℕ) → numberAt (at n) (call n) ≡ 19
+  pub empty-took-effect-at-the-stage-2-read : (n : ℕ) → numberIn (at n) (call n) ≡ 19
       → LookedAt n (partyOf (call n)) (effectAt n) × (recordAt (effectAt n) (partyOf (call n)) .stage ≡ 2)
   unfolding lineOf
   empty-took-effect-at-the-stage-2-read n empty =

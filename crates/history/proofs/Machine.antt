@@ -11,18 +11,18 @@ use Rattle.step.specs.Step.{stripFits}
 use Rattle.step.specs.Call.{Call, Fitting, partyOf, recordOf, callOf}
 use Rattle.strip.specs.Plain.{Plain}
 use Rattle.strip.specs.Shape.{StandsFor}
-use Rattle.fresh.specs.Remembered.{Plays}
+use Rattle.invariant.specs.Remembered.{Plays}
 use Rattle.history.specs.Run.{State, begin, leaves}
 use Rattle.history.specs.Finished.{isResult}
-use Rattle.history.proofs.Parties.{numberAt, looksNow}
+use Rattle.history.proofs.Parties.{numberIn, looksNow}
 
 -- A call that ends no operation leaves the plain strip. PUSHED and POPPED are what the record's operation gives on it now; FULL and
 -- EMPTY what it gave, and left, at the party's last look.
 pub data Says (s : State) (p : Plain) (thens : ℕ → Plain) (call : Call) (next : Plain) : Type 0 where
-  quiet : isResult (numberAt s call) ≡ false → next ≡ p → Says s p thens call next
-  acts : (numberAt s call ≡ 16) ⊎ (numberAt s call ≡ 17)
+  quiet : isResult (numberIn s call) ≡ false → next ≡ p → Says s p thens call next
+  acts : (numberIn s call ≡ 16) ⊎ (numberIn s call ≡ 17)
       → Plays (recordOf (s .table) call) p (callOf (s .strip) (s .table) call .answer) next → Says s p thens call next
-  recalls : (numberAt s call ≡ 18) ⊎ (numberAt s call ≡ 19) → next ≡ p
+  recalls : (numberIn s call ≡ 18) ⊎ (numberIn s call ≡ 19) → next ≡ p
       → Plays (recordOf (s .table) call) (thens (partyOf call)) (callOf (s .strip) (s .table) call .answer) (thens (partyOf call))
       → Says s p thens call next
 

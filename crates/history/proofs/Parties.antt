@@ -21,7 +21,7 @@ use Rattle.step.specs.Step.{stepOf, stepLeaves}
 use Rattle.step.specs.Call.{Call, partyOf, callOf}
 use Rattle.step.proofs.Cleared.{Steppable}
 use Rattle.step.proofs.Went.{GoneOn}
-use Rattle.fresh.proofs.Called.{Leaves, Called, called}
+use Rattle.invariant.proofs.Called.{Leaves, Called, called}
 use Rattle.history.specs.Run.{State, goesOn, isStep, looked, lineOf, leaves}
 use Rattle.history.specs.Finished.{Asked, nothingYet, askedAfter}
 use Rattle.history.proofs.Stepped.{Stepped, stepped}
@@ -36,23 +36,23 @@ stops-unlooked s (Call.start party operation order) number e = refl
 stops-unlooked s (Call.step party hint) number e = rw e refl
 stops-unlooked s (Call.withdraw party) number e = refl
 
-abbrev pub numberAt : State → Call → ℕ
-numberAt s call = numberOf (callOf (s .strip) (s .table) call .answer)
+abbrev pub numberIn : State → Call → ℕ
+numberIn s call = numberOf (callOf (s .strip) (s .table) call .answer)
 
 -- a party that looks makes a step that goes on
-pub look-is-a-step : (s : State) (call : Call) → looked s call (numberAt s call) ≡ true
-    → (hint : ℕ) × (call ≡ Call.step (partyOf call) hint) × (numberAt s call ≡ 0)
+pub look-is-a-step : (s : State) (call : Call) → looked s call (numberIn s call) ≡ true
+    → (hint : ℕ) × (call ≡ Call.step (partyOf call) hint) × (numberIn s call ≡ 0)
 look-is-a-step s (Call.start party operation order) looks = absurd (true≢false (sym looks))
 look-is-a-step s (Call.step party hint) looks =
-    (hint, refl, eqb-true (numberAt s (Call.step party hint)) 0 (both (goesOn (numberAt s (Call.step party hint))) _ looks .0))
+    (hint, refl, eqb-true (numberIn s (Call.step party hint)) 0 (both (goesOn (numberIn s (Call.step party hint))) _ looks .0))
 look-is-a-step s (Call.withdraw party) looks = absurd (true≢false (sym looks))
 
 -- whether party i looks at this entry
 abbrev pub looksNow : State → Call → (i : ℕ) → Bool
-looksNow s call i = looked s call (numberAt s call) && eqb i (partyOf call)
+looksNow s call i = looked s call (numberIn s call) && eqb i (partyOf call)
 
 -- a step from stage 1 or 2 that goes on looks
-pub step-looks-now : (s : State) (i hint : ℕ) → numberAt s (Call.step i hint) ≡ 0
+pub step-looks-now : (s : State) (i hint : ℕ) → numberIn s (Call.step i hint) ≡ 0
     → (getD (s .table) i idle .stage ≡ 1) ⊎ (getD (s .table) i idle .stage ≡ 2) → looksNow s (Call.step i hint) i ≡ true
 step-looks-now s i hint none (inl one) = rw (none, one, eq-eqb i i refl) refl
 step-looks-now s i hint none (inr two) = rw (none, two, eq-eqb i i refl) refl
@@ -87,7 +87,7 @@ module _ (s : State) (entry : ℕ) where
       go (Called.steps party hint is known clear on left) = rw (left .table-is) (elsewhere party _ (ap partyOf is))
 
   -- a step from stage 1 or 2 that goes on looks; another one was past them
-  no-look-later : (call : Call) → isStep call ≡ true → numberAt s call ≡ 0 → 1 ≤ recordAt (partyOf call) .stage
+  no-look-later : (call : Call) → isStep call ≡ true → numberIn s call ≡ 0 → 1 ≤ recordAt (partyOf call) .stage
       → looksNow s call (partyOf call) ≡ false → 2 ≤ recordAt (partyOf call) .stage
   no-look-later call step none busy now =
       go (eqb stage 1) (eqb stage 2) refl refl (rw (step, none, eq-eqb (partyOf call) (partyOf call) refl) at now)
@@ -103,13 +103,13 @@ module _ (s : State) (entry : ℕ) where
           omega (arith, busy)
 
   -- only a step of a known party looks
-  looked-known : (call : Call) → looked s call (numberAt s call) ≡ true → partyOf call < length (s .table)
+  looked-known : (call : Call) → looked s call (numberIn s call) ≡ true → partyOf call < length (s .table)
   looked-known call looks = go (called (s .strip) (s .table) call)
     where
       go : Called (s .strip) (s .table) call → partyOf call < length (s .table)
       go (Called.refuses number refusal left) =
-          let stops = refusal-stops (numberAt s call) (ap (λ (a : Answer). isRefusal (numberOf a)) (left .answered) ∙ refusal) in
-          absurd (true≢false (sym looks ∙ stops-unlooked s call (numberAt s call) stops))
+          let stops = refusal-stops (numberIn s call) (ap (λ (a : Answer). isRefusal (numberOf a)) (left .answered) ∙ refusal) in
+          absurd (true≢false (sym looks ∙ stops-unlooked s call (numberIn s call) stops))
       go (Called.starts party operation order is known clear left) = rw is known
       go (Called.withdraws party is known left) = rw is known
       go (Called.steps party hint is known clear on left) = rw is known
@@ -118,12 +118,12 @@ module _ (s : State) (entry : ℕ) where
   pub look-after : length (s .looks) ≡ length (s .table) → (call : Call) (i : ℕ)
       → getD (leaves s entry call .looks) i 0 ≡ pick (looksNow s call i) entry (getD (s .looks) i 0)
   unfolding leaves
-  look-after size call i = go (looked s call (numberAt s call)) refl
+  look-after size call i = go (looked s call (numberIn s call)) refl
     where
       party : ℕ
       party = partyOf call
 
-      go : (look : Bool) → looked s call (numberAt s call) ≡ look
+      go : (look : Bool) → looked s call (numberIn s call) ≡ look
           → getD (pick look (set (s .looks) party entry) (s .looks)) i 0 ≡ pick (look && eqb i party) entry (getD (s .looks) i 0)
       go false e = refl
       go true e = at (eqb i party) refl
@@ -144,10 +144,10 @@ module _ (s : State) (entry : ℕ) where
         (subst (λ (r : Record). 1 ≤ r .stage) e) (λ not-now. subst (λ (r : Record). 2 ≤ r .stage) e)
 
     -- a refused start asks nothing
-    asked-refused : (call : Call) → isRefusal (numberAt s call) ≡ true → askedThen call ≡ asked
+    asked-refused : (call : Call) → isRefusal (numberIn s call) ≡ true → askedThen call ≡ asked
     unfolding lineOf
     asked-refused (Call.start party operation order) refusal =
-        rw (refusal-stops (numberAt s (Call.start party operation order)) refusal) refl
+        rw (refusal-stops (numberIn s (Call.start party operation order)) refusal) refl
     asked-refused (Call.step party hint) refusal = refl
     asked-refused (Call.withdraw party) refusal = refl
 
@@ -156,7 +156,7 @@ module _ (s : State) (entry : ℕ) where
     unfolding lineOf
     asked-elsewhere (Call.start party operation order) i other =
         whichever (λ (l : List Asked). getD l i nothingYet ≡ getD asked i nothingYet)
-        (goesOn (numberAt s (Call.start party operation order)))
+        (goesOn (numberIn s (Call.start party operation order)))
         (getD-set-other asked party i (record { operation = operation; order = order; entry = entry }) nothingYet other) refl
     asked-elsewhere (Call.step party hint) i other = refl
     asked-elsewhere (Call.withdraw party) i other = refl

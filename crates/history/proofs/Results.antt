@@ -19,19 +19,19 @@ use Rattle.step.specs.Step.{stepOf, stepLeaves}
 use Rattle.step.specs.Call.{Call, partyOf, recordOf, callOf}
 use Rattle.step.proofs.Cleared.{Steppable}
 use Rattle.step.proofs.Went.{GoneOn}
-use Rattle.fresh.proofs.Called.{Leaves, Called, called}
+use Rattle.invariant.proofs.Called.{Leaves, Called, called}
 use Rattle.history.specs.Run.{State, leaves}
 use Rattle.history.specs.Finished.{isResult}
 use Rattle.history.proofs.Stepped.{Stepped, stepped}
-use Rattle.history.proofs.Parties.{numberAt}
+use Rattle.history.proofs.Parties.{numberIn}
 
 pub record Ended (s : State) (entry : ℕ) (call : Call) : Type 0 where
   pub busy : 1 ≤ recordOf (s .table) call .stage
   pub leaves-idle : getD (leaves s entry call .table) (partyOf call) idle ≡ idle
-  pub full-at : numberAt s call ≡ 18 → recordOf (s .table) call .stage ≡ 2
-  pub empty-at : numberAt s call ≡ 19 → recordOf (s .table) call .stage ≡ 3
+  pub full-at : numberIn s call ≡ 18 → recordOf (s .table) call .stage ≡ 2
+  pub empty-at : numberIn s call ≡ 19 → recordOf (s .table) call .stage ≡ 3
 
-pub looked-before : (s : State) (entry : ℕ) (call : Call) → Ended s entry call → (numberAt s call ≡ 18) ⊎ (numberAt s call ≡ 19)
+pub looked-before : (s : State) (entry : ℕ) (call : Call) → Ended s entry call → (numberIn s call ≡ 18) ⊎ (numberIn s call ≡ 19)
     → 2 ≤ recordOf (s .table) call .stage
 looked-before s entry call ended (inl full) = let at = ended .full-at full in omega arith
 looked-before s entry call ended (inr empty) = let at = ended .empty-at empty in omega arith
@@ -46,7 +46,7 @@ refusal-is-no-result number refusal result =
 
 -- a call that goes on has no result
 going-on-is-no-result : (s : State) (call : Call) → callOf (s .strip) (s .table) call .answer ≡ GoesOn
-    → isResult (numberAt s call) ≡ true → ⊥
+    → isResult (numberIn s call) ≡ true → ⊥
 going-on-is-no-result s call e result = true≢false (sym result ∙ rw e refl)
 
 module _ (s : State) (entry party hint : ℕ) (known : party < length (s .table)) where
@@ -58,11 +58,11 @@ module _ (s : State) (entry party hint : ℕ) (known : party < length (s .table)
 
   step-ended : Steppable (length (s .strip)) r hint → GoneOn (s .strip) r hint
       → Leaves (s .strip) (s .table) (Call.step party hint) (given .answer) (stepLeaves (s .strip) r hint) (set (s .table) party (given .rec))
-      → isResult (numberAt s (Call.step party hint)) ≡ true → Ended s entry (Call.step party hint)
+      → isResult (numberIn s (Call.step party hint)) ≡ true → Ended s entry (Call.step party hint)
   unfolding leaves
   step-ended clear on left result = go (stepped (s .strip) r hint on)
     where
-      number-is : numberAt s (Call.step party hint) ≡ numberOf (given .answer)
+      number-is : numberIn s (Call.step party hint) ≡ numberOf (given .answer)
       number-is = ap numberOf (left .answered)
 
       ended : given .rec ≡ idle → (numberOf (given .answer) ≡ 18 → r .stage ≡ 2) → (numberOf (given .answer) ≡ 19 → r .stage ≡ 3)
@@ -82,12 +82,12 @@ module _ (s : State) (entry party hint : ℕ) (known : party < length (s .table)
       go (Stepped.filling number second rec) = ended rec (λ e. second) (λ e. absurd (omega arith))
       go (Stepped.emptying number third rec) = ended rec (λ e. absurd (omega arith)) (λ e. third)
 
-pub a-result-ends : (s : State) (entry : ℕ) (call : Call) → isResult (numberAt s call) ≡ true → Ended s entry call
+pub a-result-ends : (s : State) (entry : ℕ) (call : Call) → isResult (numberIn s call) ≡ true → Ended s entry call
 a-result-ends s entry call result = go (called (s .strip) (s .table) call)
   where
     go : Called (s .strip) (s .table) call → Ended s entry call
     go (Called.refuses number refusal left) =
-        absurd (refusal-is-no-result (numberAt s call) (ap (λ (a : Answer). isRefusal (numberOf a)) (left .answered) ∙ refusal) result)
+        absurd (refusal-is-no-result (numberIn s call) (ap (λ (a : Answer). isRefusal (numberOf a)) (left .answered) ∙ refusal) result)
     go (Called.starts party operation order is known clear left) = absurd (going-on-is-no-result s call (left .answered) result)
     go (Called.withdraws party is known left) = absurd (going-on-is-no-result s call (left .answered) result)
     go (Called.steps party hint is known clear on left) =

@@ -16,15 +16,15 @@ use Rattle.party.specs.declared.Answered.{Answered}
 use Rattle.step.specs.Step.{stepOf, stepLeaves}
 use Rattle.step.specs.Call.{Call, partyOf}
 use Rattle.step.proofs.Went.{GoneOn}
-use Rattle.fresh.proofs.Called.{Leaves, Called, called}
+use Rattle.invariant.proofs.Called.{Leaves, Called, called}
 use Rattle.history.specs.Run.{State, leaves}
 use Rattle.history.proofs.Stepped.{Stepped, stepped}
-use Rattle.history.proofs.Parties.{numberAt, looksNow, step-looks-now, record-elsewhere}
+use Rattle.history.proofs.Parties.{numberIn, looksNow, step-looks-now, record-elsewhere}
 
 -- A party that is at stage 2 or 3 after a call: it looks now, from the stage before; or it was there, and no call of its own was taken.
 pub data Since (s : State) (call : Call) (i : ℕ) (r next : Record) : Type 0 where
   now : looksNow s call i ≡ true → next .stage ≡ suc (r .stage) → Since s call i r next
-  still : next ≡ r → (partyOf call ≡ i → isRefusal (numberAt s call) ≡ true) → Since s call i r next
+  still : next ≡ r → (partyOf call ≡ i → isRefusal (numberIn s call) ≡ true) → Since s call i r next
 
 -- at stage 2 or 3, from where FULL and EMPTY come
 abbrev pub Early : Record → Type 0

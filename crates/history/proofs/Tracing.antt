@@ -11,18 +11,18 @@ use Rattle.logic.specs.Pick.{pick}
 use Rattle.party.specs.Record.{idle}
 use Rattle.step.specs.Call.{Call, partyOf, callOf, recordOf}
 use Rattle.strip.specs.Plain.{Plain}
-use Rattle.fresh.specs.Remembered.{Plays}
+use Rattle.invariant.specs.Remembered.{Plays}
 use Rattle.placing.specs.Placing.{Adds}
 use Rattle.history.specs.Run.{State, lineOf, looked}
 use Rattle.history.specs.Finished.{Asked, Finished, nothingYet, isResult, finish, finishedAt}
 use Rattle.history.specs.Explained.{Gives}
-use Rattle.history.proofs.Parties.{numberAt, look-is-a-step}
+use Rattle.history.proofs.Parties.{numberIn, look-is-a-step}
 use Rattle.history.proofs.Results.{looked-before, a-result-ends}
 use Rattle.history.proofs.Booked.{Booked, Asks}
 use Rattle.history.proofs.Machine.{Says}
 
 -- who looks goes on, so the plain strip stays as it was
-pub look-is-quiet : (s : State) (p : Plain) (thens : ℕ → Plain) (call : Call) (next : Plain) → looked s call (numberAt s call) ≡ true
+pub look-is-quiet : (s : State) (p : Plain) (thens : ℕ → Plain) (call : Call) (next : Plain) → looked s call (numberIn s call) ≡ true
     → Says s p thens call next → next ≡ p
 look-is-quiet s p thens call next looks (Says.quiet other same) = same
 look-is-quiet s p thens call next looks (Says.acts (inl e) plays) = absurd (let none = look-is-a-step s call looks .2 in omega arith)
@@ -58,13 +58,13 @@ module _ (trace : ℕ → Plain) (n : ℕ) (s : State) (asked : List Asked) (boo
   unfolding lineOf
   adds remembered (Says.quiet other same) = Adds.nothing (ap (λ (t : Bool). pick t (finishes ∷ []) []) other) same
   adds remembered (Says.acts number plays) =
-      let is = act-is (numberAt s call) number in
+      let is = act-is (numberIn s call) number in
       let ended = a-result-ends s n call (is .0) in
       Adds.now finishes (ap (λ (t : Bool). pick t (finishes ∷ []) []) (is .0))
       (ap (λ (t : Bool). pick t (getD (s .looks) (partyOf call) 0) n) (is .1))
       (gives-as-asked n s asked call (trace n) (trace (suc n)) (booked .asked-so (partyOf call) (ended .busy)) plays)
   adds remembered (Says.recalls number same plays) =
-      let is = recall-is (numberAt s call) number in
+      let is = recall-is (numberIn s call) number in
       let ended = a-result-ends s n call (is .0) in
       let second = looked-before s n call ended number in
       let look = ap (λ (t : Bool). pick t (getD (s .looks) (partyOf call) 0) n) (is .1) in

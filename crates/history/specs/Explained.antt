@@ -5,7 +5,7 @@ use mathlib.Core.List.{List}
 use lib.ListN.{length, getD}
 use Rattle.party.specs.Answer.{numberOf, carriedOf}
 use Rattle.strip.specs.Plain.{Plain}
-use Rattle.fresh.specs.Play.{play}
+use Rattle.invariant.specs.Play.{play}
 use Rattle.placing.specs.Placing.{inOrder, Plays}
 use Rattle.history.specs.Finished.{Finished}
 

@@ -26,7 +26,7 @@ use Rattle.little.proofs.Digits.{AreBytes}
 use Rattle.image.proofs.Words.{WordFits}
 use Rattle.image.proofs.Widths.{read-record-fits}
 use Rattle.image.proofs.Leaves.{words-fit, Fit, own-leaves}
-use Rattle.image.proofs.Accepted.{accepted}
+use Rattle.image.proofs.Sizes.{header-sized}
 use Rattle.image.proofs.Gated.{NamedFits, named-fits}
 use Rattle.image.proofs.Spelled.{strip-length, table-length, record-is-read, decoded-is-spelled, record-is-laid, both-are-laid}
 
@@ -42,7 +42,7 @@ gate-is : (image : List ℕ) (call : Call) → headerRefusal image ≡ 0
     → gate (maxAt image + 2) (partiesAt image) call ≡ pick (isUnknown call) 11 (pick (leb (partiesAt image) (partyOf call)) 3 0)
 unfolding gate
 gate-is image call taken =
-    let right = accepted image taken in
+    let right = header-sized image taken in
     rw (strip-fits (maxAt image) (max-within (maxAt image) (right .max-fits)), right .parties-fit) refl
 
 module _ (image : List ℕ) (call : Call) (are : AreBytes image) where

@@ -18,7 +18,7 @@ use Rattle.image.specs.Calls.{decoded, spareRefused, imageOf}
 use Rattle.little.proofs.Digits.{AreBytes}
 use Rattle.image.proofs.Words.{WordFits}
 use Rattle.image.proofs.Widths.{idle-fits}
-use Rattle.image.proofs.Accepted.{accepted}
+use Rattle.image.proofs.Sizes.{header-sized}
 use Rattle.image.proofs.Spelled.{strip-length, table-length, spelled-strip-is-decoded, spelled-table-is-decoded}
 use Rattle.image.proofs.Leaves.{words-fit, records-fit, fits-anywhere, Fit, own-leaves}
 
@@ -67,10 +67,10 @@ module _ (image : List ℕ) (are : AreBytes image) (taken : headerRefusal image 
   unfolding Left-fits
   strip-after-is-decoded =
       rw spells
-      (spelled-strip-is-decoded image _ _ (accepted image taken .exact) (left-fits .0 ∙ strip-length image) (left-fits .2 ∙ table-length image) (left-fits .1))
+      (spelled-strip-is-decoded image _ _ (header-sized image taken .exact) (left-fits .0 ∙ strip-length image) (left-fits .2 ∙ table-length image) (left-fits .1))
 
   pub table-after-is-decoded : tableOf (imageOf image call .image) ≡ decoded image call .table
   unfolding Left-fits
   table-after-is-decoded =
       rw spells
-      (spelled-table-is-decoded image _ _ (accepted image taken .exact) (left-fits .0 ∙ strip-length image) (left-fits .2 ∙ table-length image) (left-fits .3))
+      (spelled-table-is-decoded image _ _ (header-sized image taken .exact) (left-fits .0 ∙ strip-length image) (left-fits .2 ∙ table-length image) (left-fits .3))

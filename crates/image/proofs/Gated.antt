@@ -15,7 +15,7 @@ use Rattle.image.specs.Spelling.{isSpare}
 use Rattle.image.specs.Read.{HeaderRead, NamedRead, namedRefusal}
 use Rattle.image.specs.declared.Header.{Header}
 use Rattle.image.specs.declared.Named.{Named}
-use Rattle.image.proofs.Accepted.{Sized, accepted}
+use Rattle.image.proofs.Sizes.{Sized, header-sized}
 
 pub refused-header : (image : List ℕ) (got : Header) (n : ℕ) → got .number ≡ suc n → headerRefusal image ≡ suc n
     → HeaderRead image got
@@ -56,7 +56,7 @@ named-fits image unknown party e =
     let past4 = passed (not (isSpare image (recordPlace (maxAt image) party))) 3 0 (past3 .1) in
     record {
       taken = past .0;
-      sized-right = accepted image (past .0);
+      sized-right = header-sized image (past .0);
       known = past11 .0;
       party-known = leb-false (partiesAt image) party (past3 .0);
       spare = not-false _ (past4 .0);

@@ -14,7 +14,7 @@ use Rattle.strip.specs.Lay.{rightsOf}
 use Rattle.image.specs.Format.{lengthOf, sizesFit}
 use Rattle.image.specs.Spelling.{wordBytes}
 use Rattle.image.specs.Calls.{headerBytes, layRefusal, layOf, ImagePromise}
-use Rattle.image.proofs.Accepted.{sized}
+use Rattle.image.proofs.Sizes.{sized}
 use Rattle.image.proofs.Promised.{promise}
 use Rattle.image.proofs.Laying.{fresh-laid}
 

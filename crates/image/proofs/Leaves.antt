@@ -17,18 +17,18 @@ use Rattle.word.specs.declared.Swapped.{Swapped}
 use Rattle.word.specs.declared.Swapped.the-variants.{Won, Lost, Stuck}
 use Rattle.word.proofs.Laws.{SwapGoes, swap-goes}
 use Rattle.party.specs.Record.{idle, begun}
-use Rattle.party.specs.Answer.{goesOn, refused}
+use Rattle.party.specs.Answer.{goingOn, refused}
 use Rattle.party.specs.Calls.{startRefusal, startOf, withdrawRefusal, withdrawOf}
 use Rattle.party.specs.declared.Record.{Record}
 use Rattle.party.specs.declared.Answered.{Answered}
 use Rattle.party.proofs.Cleared.{startable}
-use Rattle.step.specs.Table.{lineOf}
+use Rattle.step.specs.Stages.{accessOf}
 use Rattle.step.specs.Follow.{swappedOf}
 use Rattle.step.specs.Step.{maxOf, stepRefusal, aimed, followed, written, stepOf, stepLeaves}
 use Rattle.step.specs.Call.{Call, Fitting, ownOf, ownLeaves}
 use Rattle.step.specs.Call.Call.{start, step, withdraw}
-use Rattle.step.specs.declared.Line.{Line}
-use Rattle.step.specs.declared.Line.the-variants.{Look, Swap}
+use Rattle.step.specs.declared.Access.{Access}
+use Rattle.step.specs.declared.Access.the-variants.{Look, Swap}
 use Rattle.step.proofs.Cleared.{steppable, hint-fits-k}
 use Rattle.image.specs.Format.{wordPlace, recordPlace, maxAt}
 use Rattle.image.specs.Spelling.{stripOf, tableOf, RecordFits}
@@ -37,7 +37,7 @@ use Rattle.image.proofs.Words.{WordFits}
 use Rattle.image.proofs.Widths.{read-record-fits, idle-fits, begun-fits, aimed-fits, looked-fits, swapped-fits}
 use Rattle.image.proofs.Spelled.{strip-length, table-length, word-is-read, record-is-read}
 use Rattle.party.specs.Operation.{isPush, isRight}
-use Rattle.step.specs.Table.{own}
+use Rattle.step.specs.Stages.{own}
 
 pub words-fit : (image : List ℕ) → AreBytes image → Every WordFits 0 (stripOf image)
 words-fit image are i within =
@@ -61,20 +61,21 @@ pub record Fit (strip left : List ℕ) (r : Record) : Type 0 where
   pub words : Every WordFits 0 left
   pub rec : RecordFits r
 
--- what a swap of a line goes from and to fits its width
-abbrev LineFits : Line → Type 0
-LineFits (Look place then) = Unit {0}
-LineFits (Swap place from to then) = WordFits from × (to < 4294967296)
+-- what a swap goes from and to fits its width
+abbrev AccessFits : Access → Type 0
+AccessFits (Look place then) = Unit {0}
+AccessFits (Swap place from to then) = WordFits from × (to < 4294967296)
 
-line-fits : (r : Record) → RecordFits r → LineFits (lineOf r)
-unfolding lineOf
-line-fits r fits =
-    whichever LineFits (eqb (r .stage) 1) tt
-    (whichever LineFits (eqb (r .stage) 2) tt
-    (whichever LineFits (eqb (r .stage) 3) tt
-    (whichever LineFits (eqb (r .stage) 4)
-    (whichever LineFits push (omega (arith, fits)) (fits .second-fits, null))
-    (whichever LineFits push (omega (arith, fits)) (fits .first-fits, null)))))
+access-fits : (r : Record) → RecordFits r → AccessFits (accessOf r)
+unfolding accessOf
+access-fits r fits =
+    whichever AccessFits (eqb (r .stage) 1) tt
+    (whichever AccessFits (eqb (r .stage) 2) tt
+    (whichever AccessFits (eqb (r .stage) 3) tt
+    (whichever AccessFits (eqb (r .stage) 4)
+    (whichever AccessFits push (omega (arith, fits)) (fits .second-fits, null))
+    (whichever AccessFits (eqb (r .stage) 5)
+    (whichever AccessFits push (omega (arith, fits)) (fits .first-fits, null)) tt))))
   where
     push : Bool
     push = isPush (r .operation)
@@ -87,10 +88,10 @@ module _ (strip : List ℕ) (words : Every WordFits 0 strip) where
   same-words r fits = record { as-many = refl; words = words; rec = fits }
 
   -- one access, and what follows it
-  line-leaves : (at : Record) → RecordFits at → (l : Line) → LineFits l → Fit strip (written strip l) (followed strip at l .rec)
-  line-leaves at fits (Look place then) line =
+  access-leaves : (at : Record) → RecordFits at → (l : Access) → AccessFits l → Fit strip (written strip l) (followed strip at l .rec)
+  access-leaves at fits (Look place then) access =
       same-words _ (looked-fits (maxOf (length strip)) at fits then (getD strip place 0) (fits-anywhere WordFits 0 strip words (omega arith) place))
-  line-leaves at fits (Swap place from to then) line = go (swap-goes (getD strip place 0) from)
+  access-leaves at fits (Swap place from to then) access = go (swap-goes (getD strip place 0) from)
     where
       met : ℕ
       met = getD strip place 0
@@ -103,7 +104,7 @@ module _ (strip : List ℕ) (words : Every WordFits 0 strip) where
           subst After (sym e)
           (record {
             as-many = length-set strip place (raisedTo from to);
-            words = every-set WordFits 0 strip place (raisedTo from to) words (omega (arith, line, unended));
+            words = every-set WordFits 0 strip place (raisedTo from to) words (omega (arith, access, unended));
             rec = swapped-fits at fits then Won;
           })
       go (SwapGoes.lost other e) = subst After (sym e) (same-words (swappedOf at then (Lost met) .rec) (swapped-fits at fits then (Lost met)))
@@ -114,16 +115,16 @@ module _ (strip : List ℕ) (words : Every WordFits 0 strip) where
     unfolding stepOf stepLeaves
     step-leaves hint = go (eqb (stepRefusal (length strip) r hint) 0) refl
       where
-        line : Line
-        line = lineOf (aimed r hint)
+        access : Access
+        access = accessOf (aimed r hint)
 
         go : (clear : Bool) → eqb (stepRefusal (length strip) r hint) 0 ≡ clear
-            → Fit strip (pick clear (written strip line) strip)
-            (pick clear (followed strip (aimed r hint) line) (refused (stepRefusal (length strip) r hint) r) .rec)
+            → Fit strip (pick clear (written strip access) strip)
+            (pick clear (followed strip (aimed r hint) access) (refused (stepRefusal (length strip) r hint) r) .rec)
         go true e =
             let clear = steppable (length strip) r hint (eqb-true _ 0 e) in
             let fitting = aimed-fits r hint fits (hint-fits-k (length strip) r hint clear) in
-            line-leaves (aimed r hint) fitting line (line-fits (aimed r hint) fitting)
+            access-leaves (aimed r hint) fitting access (access-fits (aimed r hint) fitting)
         go false e = same-words r fits
 
     pub own-leaves : (call : Call) → Fitting call → Fit strip (ownLeaves strip r call) (ownOf strip r call .rec)
@@ -134,7 +135,7 @@ module _ (strip : List ℕ) (words : Every WordFits 0 strip) where
         max = maxOf (length strip)
 
         go : (clear : Bool) → eqb (startRefusal max r operation order) 0 ≡ clear
-            → RecordFits (pick clear (goesOn (begun operation order)) (refused (startRefusal max r operation order) r) .rec)
+            → RecordFits (pick clear (goingOn (begun operation order)) (refused (startRefusal max r operation order) r) .rec)
         go true e = begun-fits operation order (omega (arith, startable max r operation order (eqb-true _ 0 e))) narrow
         go false e = fits
     own-leaves (step party hint) narrow = step-leaves hint

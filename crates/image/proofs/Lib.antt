@@ -3,7 +3,7 @@ pub mod Words
 pub mod Records
 pub mod Made
 pub mod Widths
-pub mod Accepted
+pub mod Sizes
 pub mod Gated
 pub mod Spelled
 pub mod Leaves

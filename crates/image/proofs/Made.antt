@@ -8,7 +8,7 @@ use Rattle.word.specs.Word.{counterOf, lastCounter, raisedTo}
 use Rattle.word.specs.declared.Swapped.{Swapped}
 use Rattle.word.specs.declared.Swapped.the-variants.{Won, Lost, Stuck}
 use Rattle.party.specs.Record.{again}
-use Rattle.party.specs.Answer.{goesOn}
+use Rattle.party.specs.Answer.{goingOn}
 use Rattle.party.specs.declared.Record.{Record}
 use Rattle.party.specs.declared.Answer.{Answer}
 use Rattle.party.specs.declared.Answer.the-variants.{GoesOn, Refused}
@@ -27,7 +27,7 @@ module _ (image : List ℕ) (at : ℕ) (r : Record) (place from to : ℕ) (then 
       → SwapMade image at r place from to then answer left
   made met answer left e a l = record { answered = rw e a; bytes-left = rw e l }
 
-  pub made-lost : (left : List ℕ) → (seen ≡ from → ⊥) → left ≡ recorded image at (goesOn (again r))
+  pub made-lost : (left : List ℕ) → (seen ≡ from → ⊥) → left ≡ recorded image at (goingOn (again r))
       → SwapMade image at r place from to then GoesOn left
   made-lost left other is = made (Lost seen) GoesOn left (rw (ne-eqb seen from other) refl) refl is
 

@@ -13,23 +13,23 @@ use Rattle.word.specs.declared.Swapped.{Swapped}
 use Rattle.word.specs.declared.Swapped.the-variants.{Won, Lost, Stuck}
 use Rattle.word.proofs.Laws.{SwapGoes, swap-goes}
 use Rattle.party.specs.Record.{idle, begun}
-use Rattle.party.specs.Answer.{goesOn, refused}
+use Rattle.party.specs.Answer.{goingOn, refused}
 use Rattle.party.specs.Calls.{startOwn, startRefusal, startOf, withdrawOwn, withdrawRefusal, withdrawOf}
 use Rattle.party.specs.declared.Record.{Record}
 use Rattle.party.specs.declared.Answer.the-variants.{GoesOn}
 use Rattle.party.proofs.Cleared.{max-within}
-use Rattle.step.specs.Table.{near, lineOf}
+use Rattle.step.specs.Stages.{near, accessOf}
 use Rattle.step.specs.Follow.{lookedOf, swappedOf}
 use Rattle.step.specs.Step.{maxOf, stepOwn, stepRefusal, aimed, stepOf, stepLeaves}
 use Rattle.step.specs.Call.{Call}
-use Rattle.step.specs.declared.Line.{Line}
-use Rattle.step.specs.declared.Line.the-variants.{Look, Swap}
+use Rattle.step.specs.declared.Access.{Access}
+use Rattle.step.specs.declared.Access.the-variants.{Look, Swap}
 use Rattle.step.specs.declared.AfterLook.{AfterLook}
 use Rattle.step.specs.declared.AfterLook.the-variants.{Remember}
 use Rattle.step.specs.declared.AfterSwap.{AfterSwap}
 use Rattle.step.proofs.Cleared.{Steppable, steppable, placeOf, place-inside, hint-fits-k}
-use Rattle.step.proofs.Lines.{when-refused, when-looks, when-swaps}
-use Rattle.step.proofs.Stages.{aimed-later}
+use Rattle.step.proofs.Accesses.{when-refused, when-looks, when-swaps}
+use Rattle.step.proofs.EachStage.{aimed-later}
 use Rattle.little.specs.Bytes.{numberAt}
 use Rattle.image.specs.Format.{wordPlace, maxAt}
 use Rattle.image.specs.Spelling.{stripOf}
@@ -59,10 +59,10 @@ module _ (image : List ℕ) (party operation order : ℕ) (are : AreBytes image)
       own-refused image starting are clear _ (rw (start-own-is, ne-eqb _ 0 some) refl, refl)
 
   pub start-done : startOwn (maxAt image) (recordIn image starting) operation order ≡ 0 → order < 4294967296
-      → imageOf image starting ≡ record { answer = GoesOn; image = recorded image (placeIn image starting) (goesOn (begun operation order)) }
+      → imageOf image starting ≡ record { answer = GoesOn; image = recorded image (placeIn image starting) (goingOn (begun operation order)) }
   unfolding startOf
   start-done none narrow =
-      own-recorded image starting are clear narrow (goesOn (begun operation order)) (rw (start-own-is, none) refl, refl)
+      own-recorded image starting are clear narrow (goingOn (begun operation order)) (rw (start-own-is, none) refl, refl)
 
 module _ (image : List ℕ) (party : ℕ) (are : AreBytes image) (clear : namedRefusal image false party ≡ 0) where
   abbrev withdrawing : Call
@@ -80,16 +80,16 @@ module _ (image : List ℕ) (party : ℕ) (are : AreBytes image) (clear : namedR
       own-refused image withdrawing are clear _ (rw (withdraw-own-is, ne-eqb _ 0 some) refl, refl)
 
   pub withdraw-done : withdrawOwn (maxAt image) (recordIn image withdrawing) ≡ 0
-      → imageOf image withdrawing ≡ record { answer = GoesOn; image = recorded image (placeIn image withdrawing) (goesOn idle) }
+      → imageOf image withdrawing ≡ record { answer = GoesOn; image = recorded image (placeIn image withdrawing) (goingOn idle) }
   unfolding withdrawOf
   withdraw-done none =
-      own-recorded image withdrawing are clear tt (goesOn idle) (rw (withdraw-own-is, none) refl, refl)
+      own-recorded image withdrawing are clear tt (goingOn idle) (rw (withdraw-own-is, none) refl, refl)
 
--- a line that swaps is of a later stage than 1
-swap-is-later : (r : Record) (place from to : ℕ) (then : AfterSwap) → lineOf r ≡ Swap place from to then → r .stage ≡ 1 → ⊥
-unfolding lineOf
-swap-is-later r place from to then line s =
-    let looks : Look (near r) Remember ≡ Swap place from to then = rw s at line in
+-- an access that swaps is of a later stage than 1
+swap-is-later : (r : Record) (place from to : ℕ) (then : AfterSwap) → accessOf r ≡ Swap place from to then → r .stage ≡ 1 → ⊥
+unfolding accessOf
+swap-is-later r place from to then access s =
+    let looks : Look (near r) Remember ≡ Swap place from to then = rw s at access in
     let z : _≡_ {A = ℕ} 0 1 = cc in
     omega arith
 
@@ -124,34 +124,34 @@ module _ (image : List ℕ) (party hint : ℕ) (are : AreBytes image) (clear : n
     hint-fits = hint-fits-k (length (stripOf image)) before hint cleared
 
     module _ (at : Record) (a : at ≡ aimed before hint) where
-      -- the place of the line is inside the strip
-      pub line-inside : (l : Line) → lineOf at ≡ l → placeOf l < maxAt image + 2
-      line-inside l line =
-          subst (λ (m : Line). placeOf m < maxAt image + 2) (ap lineOf (sym a) ∙ line)
-          (subst (λ (words : ℕ). placeOf (lineOf (aimed before hint)) < words) (strip-length image)
+      -- the place of the access is inside the strip
+      pub access-inside : (l : Access) → accessOf at ≡ l → placeOf l < maxAt image + 2
+      access-inside l access =
+          subst (λ (m : Access). placeOf m < maxAt image + 2) (ap accessOf (sym a) ∙ access)
+          (subst (λ (words : ℕ). placeOf (accessOf (aimed before hint)) < words) (strip-length image)
           (place-inside (length (stripOf image)) before hint cleared))
 
-      pub step-looked : (place : ℕ) (then : AfterLook) → lineOf at ≡ Look place then
+      pub step-looked : (place : ℕ) (then : AfterLook) → accessOf at ≡ Look place then
           → imageOf image stepping ≡ record {
             answer = lookedOf (maxAt image) at then (numberAt 8 image (wordPlace place)) .answer;
             image = recorded image (placeIn image stepping) (lookedOf (maxAt image) at then (numberAt 8 image (wordPlace place)));
           }
-      step-looked place then line =
+      step-looked place then access =
           let word = numberAt 8 image (wordPlace place) in
-          let seen = word-is-read image place (line-inside (Look place then) line) in
-          let step = when-looks (stripOf image) before at hint passes a place then word line (sym seen) in
+          let seen = word-is-read image place (access-inside (Look place then) access) in
+          let step = when-looks (stripOf image) before at hint passes a place then word access (sym seen) in
           own-recorded image stepping are clear tt (lookedOf (maxAt image) at then word)
           (sym (step .0) ∙ ap (λ (max : ℕ). lookedOf max at then word) (max-of image), sym (step .1))
 
-      pub step-swapped : (place from to : ℕ) (then : AfterSwap) → lineOf at ≡ Swap place from to then
+      pub step-swapped : (place from to : ℕ) (then : AfterSwap) → accessOf at ≡ Swap place from to then
           → imageOf image stepping ≡ record {
             answer = swappedOf at then (metAt image place from) .answer;
             image = swapRecorded (metAt image place from) image (placeIn image stepping) place (raisedTo from to) (swappedOf at then (metAt image place from));
           }
-      step-swapped place from to then line = go (swap-goes (numberAt 8 image (wordPlace place)) from)
+      step-swapped place from to then access = go (swap-goes (numberAt 8 image (wordPlace place)) from)
         where
           inside : place < maxAt image + 2
-          inside = line-inside (Swap place from to then) line
+          inside = access-inside (Swap place from to then) access
 
           Went : Swapped → Type 0
           Went met = imageOf image stepping ≡ record {
@@ -166,7 +166,7 @@ module _ (image : List ℕ) (party hint : ℕ) (are : AreBytes image) (clear : n
               let same : met ≡ swapOf (getD (stripOf image) place 0) from =
               sym e ∙ ap (λ (w : ℕ). swapOf w from) (sym (word-is-read image place inside)) in
               when-swaps (stripOf image) before at hint passes a place from to then met
-              (wordsAfter met (stripOf image) place (raisedTo from to)) line
+              (wordsAfter met (stripOf image) place (raisedTo from to)) access
               (record { answered = same; words = ap (λ (t : Swapped). wordsAfter t (stripOf image) place (raisedTo from to)) same })
 
           go : SwapGoes (numberAt 8 image (wordPlace place)) from → Went (metAt image place from)
@@ -181,5 +181,5 @@ module _ (image : List ℕ) (party hint : ℕ) (are : AreBytes image) (clear : n
               (own-recorded image stepping are clear tt (swappedOf at then (Lost met)) (sym (step .0), sym (step .1)))
           go (SwapGoes.stuck same ended e) =
               let step = owned Stuck e in
-              let later = aimed-later before hint (λ s. swap-is-later at place from to then line (ap (λ (r : Record). r .stage) a ∙ s)) in
+              let later = aimed-later before hint (λ s. swap-is-later at place from to then access (ap (λ (r : Record). r .stage) a ∙ s)) in
               subst Went (sym e) (own-refused image stepping are clear 9 (sym (step .0) ∙ ap (refused 9) (a ∙ sym later), sym (step .1)))

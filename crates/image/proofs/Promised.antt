@@ -13,11 +13,11 @@ use Rattle.party.specs.Calls.{startOwn, withdrawOwn}
 use Rattle.party.specs.declared.Record.{Record}
 use Rattle.party.specs.declared.Answer.{Answer}
 use Rattle.party.specs.declared.Answer.the-variants.{GoesOn, Refused}
-use Rattle.step.specs.Table.{lineOf}
+use Rattle.step.specs.Stages.{accessOf}
 use Rattle.step.specs.Step.{stepOwn, aimed}
 use Rattle.step.specs.Call.{Call, partyOf, isUnknown}
-use Rattle.step.specs.declared.Line.{Line}
-use Rattle.step.specs.declared.Line.the-variants.{Look, Swap}
+use Rattle.step.specs.declared.Access.{Access}
+use Rattle.step.specs.declared.Access.the-variants.{Look, Swap}
 use Rattle.step.specs.declared.AfterLook.{AfterLook}
 use Rattle.step.specs.declared.AfterSwap.{AfterSwap}
 use Rattle.step.proofs.Cleared.{placeOf}
@@ -29,7 +29,7 @@ use Rattle.image.specs.declared.Named.{Named}
 use Rattle.little.proofs.Digits.{AreBytes}
 use Rattle.image.proofs.Gated.{named-fits}
 use Rattle.image.proofs.Called.{stopped, placeIn, recordIn}
-use Rattle.image.proofs.Owned.{start-refused, start-done, withdraw-refused, withdraw-done, step-refused, hint-fits, line-inside, step-looked, step-swapped}
+use Rattle.image.proofs.Owned.{start-refused, start-done, withdraw-refused, withdraw-done, step-refused, hint-fits, access-inside, step-looked, step-swapped}
 
 -- a call that leaves what is wanted keeps its promise
 pub promise : {wanted : Done} {answer : Answer} {left : List ℕ} → wanted ≡ record { answer = answer; image = left }
@@ -162,23 +162,23 @@ module _ (image : List ℕ) (party hint : ℕ) (found : Named) (r : Record) (num
       aim-is : at ≡ aimed (recordIn image stepping) hint
       aim-is = a ∙ ap (λ (x : Record). aimed x hint) r-in
 
-      -- the word of the line is inside the image
-      pub line-room : (l : Line) → lineOf at ≡ l → wordPlace (placeOf l) + 8 ≤ length image
-      line-room l line =
+      -- the word of the access is inside the image
+      pub access-room : (l : Access) → accessOf at ≡ l → wordPlace (placeOf l) + 8 ≤ length image
+      access-room l access =
           let fits = named-fits image false party named in
-          let inside = line-inside image party hint are named (sym own-step ∙ none) at aim-is l line in
+          let inside = access-inside image party hint are named (sym own-step ∙ none) at aim-is l access in
           omega (arith, fits .sized-right .exact, inside)
 
-      pub keeps-look : (place : ℕ) (then : AfterLook) → lineOf at ≡ Look place then → {answer : Answer} {left : List ℕ}
+      pub keeps-look : (place : ℕ) (then : AfterLook) → accessOf at ≡ Look place then → {answer : Answer} {left : List ℕ}
           → LookMade image (found .at) (found .max) at place then answer left → ImagePromise (imageOf image stepping) answer left
-      keeps-look place then line made =
+      keeps-look place then access made =
           promise
-          (step-looked image party hint are named (sym own-step ∙ none) at aim-is place then line
+          (step-looked image party hint are named (sym own-step ∙ none) at aim-is place then access
           ∙ sym (rw (made .answered, made .bytes-left, spot, wide) refl))
 
-      pub keeps-swap : (place from to : ℕ) (then : AfterSwap) → lineOf at ≡ Swap place from to then → {answer : Answer} {left : List ℕ}
+      pub keeps-swap : (place from to : ℕ) (then : AfterSwap) → accessOf at ≡ Swap place from to then → {answer : Answer} {left : List ℕ}
           → SwapMade image (found .at) at place from to then answer left → ImagePromise (imageOf image stepping) answer left
-      keeps-swap place from to then line made =
+      keeps-swap place from to then access made =
           promise
-          (step-swapped image party hint are named (sym own-step ∙ none) at aim-is place from to then line
+          (step-swapped image party hint are named (sym own-step ∙ none) at aim-is place from to then access
           ∙ sym (rw (made .answered, made .bytes-left, spot) refl))

@@ -1,17 +1,17 @@
 // The image: four calls on lent bytes. Its header and its records are public for the crate of whole images, which checks lengths first.
+mod accesses;
 pub mod fresh;
 pub mod gate;
-mod line;
 mod memory;
 pub mod record;
 
+use crate::accesses::make_look;
+use crate::accesses::make_swap;
 use crate::fresh::lay_header;
 use crate::fresh::lay_rights;
 use crate::fresh::lay_zeros;
 use crate::gate::read_named;
 use crate::gate::sizes_fit;
-use crate::line::make_look;
-use crate::line::make_swap;
 use crate::record::read_record;
 use crate::record::write_record;
 use party::Answer;
@@ -19,10 +19,10 @@ use party::make::begun_record;
 use party::make::idle_record;
 use party::start_own;
 use party::withdraw_own;
-use step::Line;
+use step::Access;
 use step::aim;
+use step::stages::access;
 use step::step_own;
-use step::table::line;
 ghost use Rattle.step.specs.Call.{Call};
 ghost use Rattle.image.specs.Calls.{layOf, imageOf, ImagePromise};
 
@@ -87,9 +87,9 @@ pub fn step(image: &mut [u8], party: u32, hint: u32) -> Answer
         return Answer::Refused(number);
     }
     let aimed = aim(r, hint);
-    match line(aimed) {
-        Line::Look(place, then) => make_look(image, found.at, found.max, aimed, place, then),
-        Line::Swap(place, from, to, then) => make_swap(
+    match access(aimed) {
+        Access::Look(place, then) => make_look(image, found.at, found.max, aimed, place, then),
+        Access::Swap(place, from, to, then) => make_swap(
             image,
             found.at,
             aimed,

@@ -7,7 +7,7 @@ ghost use lib.ListN.{length};
 ghost use Rattle.little.specs.Bytes.{numberAt};
 ghost use Rattle.image.specs.Format.{wordPlace};
 
-// The step's lines call it, past the step's checks.
+// The step's accesses call it, past the step's checks.
 pub fn look_in(image: &[u8], place: u32) -> u64
     requires { ⌜ wordPlace place + 8 ≤ length (now image) ⌝ }
     ensures { λ w. ⌜ w ≡ numberAt 8 (now (image .entry)) (wordPlace place) ⌝ }

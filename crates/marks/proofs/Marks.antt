@@ -3,13 +3,13 @@ use mathlib.Core.Path.{_≡_, refl}
 use mathlib.Core.Bool.{true, _&&_}
 use Rattle.party.specs.Valid.{validOf}
 use Rattle.party.specs.Calls.{startOwn, startRefusal, startOf}
-use Rattle.step.specs.Table.{lineOf}
+use Rattle.step.specs.Stages.{accessOf}
 use Rattle.step.specs.Follow.{judgeOf, recheckOf}
 use Rattle.step.specs.Step.{stepOwn, stepRefusal, stepOf, stepLeaves}
 use Rattle.step.specs.Call.{gate, callOf}
 use Rattle.strip.specs.Measure.{measureOf}
 use Rattle.strip.specs.Measure as measure
-use Rattle.fresh.specs.Play.{play}
+use Rattle.invariant.specs.Play.{play}
 use Rattle.placing.specs.Placing.{atEntry, inOrder}
 use Rattle.history.specs.Run.{lineOf as runLine, leaves, linesFrom, endFrom}
 use Rattle.history.specs.Finished.{finishedFrom}

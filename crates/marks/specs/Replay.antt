@@ -7,7 +7,7 @@ use lib.Dec.{eqb}
 use Rattle.party.specs.Answer.{numberOf, carriedOf}
 use Rattle.step.specs.Call.{Call}
 use Rattle.strip.specs.Plain.{Plain}
-use Rattle.fresh.specs.Play.{play}
+use Rattle.invariant.specs.Play.{play}
 use Rattle.strip.specs.Shape.{plainBetween}
 use Rattle.strip.specs.Measure.{lefts, orders}
 use Rattle.placing.specs.Placing.{inOrder}

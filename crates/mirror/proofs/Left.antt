@@ -18,7 +18,7 @@ use Rattle.party.specs.Answer.{refused}
 use Rattle.party.specs.declared.Record.{Record}
 use Rattle.party.specs.declared.Answered.{Answered}
 use Rattle.party.specs.declared.Answer.the-variants.{Popped}
-use Rattle.step.specs.Table.{lineOf}
+use Rattle.step.specs.Stages.{accessOf}
 use Rattle.step.specs.Follow.{judgeOf, recheckOf, wonOf, swappedOf}
 use Rattle.step.specs.Step.{stripFits, maxOf, stepRefusal, aimed, followed, written, stepOf, stepLeaves}
 use Rattle.step.specs.declared.AfterSwap.{AfterSwap}
@@ -44,18 +44,18 @@ either true p q = p
 either false p q = q
 
 -- what follows the access of the mirrored record's line, and the words it leaves, mirror those of the record's line
-abbrev LineMirrors : List ℕ → Record → (hint : ℕ) → Type 0
-LineMirrors strip r hint =
+abbrev AccessMirrors : List ℕ → Record → (hint : ℕ) → Type 0
+AccessMirrors strip r hint =
     let max = maxOf (length strip) in
     let at = aimed r hint in
     let at′ = aimed (mirrorRecord max r) (mirrorPlace max hint) in
-    Mirrors max (followed strip at (lineOf at)) (written strip (lineOf at)) (followed (mirrorStrip strip) at′ (lineOf at′))
-    (written (mirrorStrip strip) (lineOf at′))
+    Mirrors max (followed strip at (accessOf at)) (written strip (accessOf at)) (followed (mirrorStrip strip) at′ (accessOf at′))
+    (written (mirrorStrip strip) (accessOf at′))
 
 -- a step that is refused alike mirrors, if its line does where it passes
 step-mirrors : (strip : List ℕ) (r : Record) (hint : ℕ)
     → stepRefusal (length strip) (mirrorRecord (maxOf (length strip)) r) (mirrorPlace (maxOf (length strip)) hint) ≡ stepRefusal (length strip) r hint
-    → (Steppable (length strip) r hint → LineMirrors strip r hint) → StepMirrors strip r hint
+    → (Steppable (length strip) r hint → AccessMirrors strip r hint) → StepMirrors strip r hint
 unfolding stepOf stepLeaves
 step-mirrors strip r hint alike line = rw (length-mirror strip, alike) (go (eqb number 0) refl)
   where
@@ -75,9 +75,9 @@ step-mirrors strip r hint alike line = rw (length-mirror strip, alike) (go (eqb 
     at′ = aimed r′ (mirrorPlace max hint)
 
     go : (none : Bool) → eqb number 0 ≡ none
-        → Mirrors max (pick none (followed strip at (lineOf at)) (refused number r)) (pick none (written strip (lineOf at)) strip)
-        (pick none (followed (mirrorStrip strip) at′ (lineOf at′)) (refused number r′))
-        (pick none (written (mirrorStrip strip) (lineOf at′)) (mirrorStrip strip))
+        → Mirrors max (pick none (followed strip at (accessOf at)) (refused number r)) (pick none (written strip (accessOf at)) strip)
+        (pick none (followed (mirrorStrip strip) at′ (accessOf at′)) (refused number r′))
+        (pick none (written (mirrorStrip strip) (accessOf at′)) (mirrorStrip strip))
     go true e = line (steppable (length strip) r hint (eqb-true number 0 e))
     go false e = mirrored
 
@@ -117,60 +117,60 @@ module _ (strip : List ℕ) (hint k v first second : ℕ) where
   abbrev pop : (stage : ℕ) → Record
   pop stage = record { operation = 3; stage = stage; k = k; v = v; first = first; second = second }
 
-  push-1 : hint + 2 ≤ length strip → LineMirrors strip (push 1) hint
-  unfolding lineOf
+  push-1 : hint + 2 ≤ length strip → AccessMirrors strip (push 1) hint
+  unfolding accessOf
   push-1 inside = rw (mirror-at strip (hint + 1) (mirrorPlace max hint - 1) (omega arith)) mirrored
 
-  pop-1 : hint + 2 ≤ length strip → LineMirrors strip (pop 1) hint
-  unfolding lineOf
+  pop-1 : hint + 2 ≤ length strip → AccessMirrors strip (pop 1) hint
+  unfolding accessOf
   pop-1 inside = rw (mirror-at strip (hint + 1) (mirrorPlace max hint - 1) (omega arith)) mirrored
 
   module _ (inside : k + 2 ≤ length strip) where
     met : getD (mirrorStrip strip) (mirrorPlace max k) 0 ≡ mirrorWord (getD strip k 0)
     met = mirror-at strip k (mirrorPlace max k) (omega arith)
 
-    push-2 : LineMirrors strip (push 2) hint
-    unfolding lineOf judgeOf
+    push-2 : AccessMirrors strip (push 2) hint
+    unfolding accessOf judgeOf
     push-2 =
         let word = getD strip k 0 in
         rw (length-mirror strip, met, mirror-is-RN first, mirror-is-RN word, wall-mirrors max k)
         (either (eqb (valueOf first) LN || not (eqb (valueOf word) LN)) mirrored (either (eqb k 0) mirrored mirrored))
 
-    pop-2 : LineMirrors strip (pop 2) hint
-    unfolding lineOf judgeOf
+    pop-2 : AccessMirrors strip (pop 2) hint
+    unfolding accessOf judgeOf
     pop-2 =
         let word = getD strip k 0 in
         rw (met, mirror-is-RN first, mirror-is-LN first, mirror-is-RN word)
         (either (eqb (valueOf first) LN || not (eqb (valueOf word) LN)) mirrored (either (eqb (valueOf first) RN) mirrored mirrored))
 
-    pop-3 : LineMirrors strip (pop 3) hint
-    unfolding lineOf recheckOf
+    pop-3 : AccessMirrors strip (pop 3) hint
+    unfolding accessOf recheckOf
     pop-3 =
         let word = getD strip (k + 1) 0 in
         rw (mirror-at strip (k + 1) (mirrorPlace max k - 1) (omega arith), mirror-same word first)
         (either (eqb word first) mirrored mirrored)
 
-    push-4 : LineMirrors strip (push 4) hint
-    unfolding lineOf
+    push-4 : AccessMirrors strip (push 4) hint
+    unfolding accessOf
     push-4 =
         swap-mirrors strip (k + 1) (mirrorPlace max k - 1) first (valueOf first) (valueOf (mirrorWord first)) (push 4) (mirrorRecord max (push 4))
         Onward (omega arith) (ap (raisedTo (mirrorWord first)) (mirror-value first) ∙ mirror-raised first (valueOf first) (omega arith))
         mirrored refl refl
 
-    pop-4 : LineMirrors strip (pop 4) hint
-    unfolding lineOf
+    pop-4 : AccessMirrors strip (pop 4) hint
+    unfolding accessOf
     pop-4 =
         swap-mirrors strip k (mirrorPlace max k) second LN RN (pop 4) (mirrorRecord max (pop 4)) Onward (omega arith)
         (mirror-raised second LN (omega arith)) mirrored refl refl
 
-    push-5 : 3 ≤ v → v < 4294967296 → LineMirrors strip (push 5) hint
-    unfolding lineOf
+    push-5 : 3 ≤ v → v < 4294967296 → AccessMirrors strip (push 5) hint
+    unfolding accessOf
     push-5 order below =
         swap-mirrors strip k (mirrorPlace max k) second v v (push 5) (mirrorRecord max (push 5)) Push (omega arith)
         (ap (raisedTo (mirrorWord second)) (sym (order-stays v order)) ∙ mirror-raised second v below) mirrored refl refl
 
-    pop-5 : LineMirrors strip (pop 5) hint
-    unfolding lineOf
+    pop-5 : AccessMirrors strip (pop 5) hint
+    unfolding accessOf
     pop-5 =
         swap-mirrors strip (k + 1) (mirrorPlace max k - 1) first LN RN (pop 5) (mirrorRecord max (pop 5)) Pop (omega arith)
         (mirror-raised first LN (omega arith)) (record { answer = ap Popped (mirror-value first); rec = refl; words = refl }) refl refl
@@ -179,9 +179,9 @@ module _ (strip : List ℕ) (hint k v first second : ℕ) where
   within : (place : ℕ) → stripFits (length strip) ≡ true → leb place max ≡ true → place + 2 ≤ length strip
   within place fits low = omega (arith, strip-within (length strip) fits, leb-true place max low)
 
-  push-line : v < 4294967296 → (stage : ℕ) → Steppable (length strip) (push stage) hint → LineMirrors strip (push stage) hint
-  push-line below =
-      by-stage (λ (stage : ℕ). Steppable (length strip) (push stage) hint → LineMirrors strip (push stage) hint)
+  push-access : v < 4294967296 → (stage : ℕ) → Steppable (length strip) (push stage) hint → AccessMirrors strip (push stage) hint
+  push-access below =
+      by-stage (λ (stage : ℕ). Steppable (length strip) (push stage) hint → AccessMirrors strip (push stage) hint)
       (λ clear. absurd (true≢false (clear .busy)))
       (λ clear. push-1 (within hint (clear .strip-fits) (clear .aimed-fits)))
       (λ clear. push-2 (within k (clear .strip-fits) (clear .aimed-fits)))
@@ -192,9 +192,9 @@ module _ (strip : List ℕ) (hint k v first second : ℕ) where
       push-5 (within k (clear .strip-fits) (clear .aimed-fits)) order below)
       (λ stage past clear. absurd (true≢false (sym (clear .valid) ∙ past-is-invalid max (push stage) past)))
 
-  pop-line : (stage : ℕ) → Steppable (length strip) (pop stage) hint → LineMirrors strip (pop stage) hint
-  pop-line =
-      by-stage (λ (stage : ℕ). Steppable (length strip) (pop stage) hint → LineMirrors strip (pop stage) hint)
+  pop-access : (stage : ℕ) → Steppable (length strip) (pop stage) hint → AccessMirrors strip (pop stage) hint
+  pop-access =
+      by-stage (λ (stage : ℕ). Steppable (length strip) (pop stage) hint → AccessMirrors strip (pop stage) hint)
       (λ clear. absurd (true≢false (clear .busy)))
       (λ clear. pop-1 (within hint (clear .strip-fits) (clear .aimed-fits)))
       (λ clear. pop-2 (within k (clear .strip-fits) (clear .aimed-fits)))
@@ -205,10 +205,10 @@ module _ (strip : List ℕ) (hint k v first second : ℕ) where
 
   push-mirrors : v < 4294967296 → (stage : ℕ) → StepMirrors strip (push stage) hint
   push-mirrors below stage =
-      step-mirrors strip (push stage) hint (push-refused-alike (length strip) hint k v first second stage) (push-line below stage)
+      step-mirrors strip (push stage) hint (push-refused-alike (length strip) hint k v first second stage) (push-access below stage)
 
   pop-mirrors : (stage : ℕ) → StepMirrors strip (pop stage) hint
-  pop-mirrors stage = step-mirrors strip (pop stage) hint (pop-refused-alike (length strip) hint k v first second stage) (pop-line stage)
+  pop-mirrors stage = step-mirrors strip (pop stage) hint (pop-refused-alike (length strip) hint k v first second stage) (pop-access stage)
 
 -- A left step is the mirror of the right step, refused or not, on any strip and with any hint. An order is 32 bits wide.
 pub a-left-step-is-the-mirrored-right-step : (strip : List ℕ) (r : Record) (hint : ℕ)

@@ -10,7 +10,7 @@ use Rattle.logic.proofs.Bools.{whichever}
 use Rattle.party.specs.Operation.{orderFits}
 use Rattle.party.specs.Record.{idle, begun}
 use Rattle.party.specs.Valid.{validOf}
-use Rattle.party.specs.Answer.{goesOn, refused, unless, RefusedKeeps}
+use Rattle.party.specs.Answer.{goingOn, refused, unless, RefusedKeeps}
 use Rattle.party.specs.Calls.{startRefusal, startOf, withdrawRefusal, withdrawOf}
 use Rattle.party.specs.declared.Record.{Record}
 use Rattle.party.specs.declared.Answered.{Answered}
@@ -18,7 +18,7 @@ use Rattle.party.proofs.Stages.{ValidAt, at-valid}
 use Rattle.party.proofs.Cleared.{startable}
 
 -- 0 is no refusal
-going-on-keeps : (r next : Record) → RefusedKeeps r (goesOn next)
+going-on-keeps : (r next : Record) → RefusedKeeps r (goingOn next)
 going-on-keeps r next refused = absurd (true≢false (sym refused))
 
 pub unless-keeps : (number : ℕ) (r : Record) (done : Answered) → RefusedKeeps r done → RefusedKeeps r (unless number r done)
@@ -29,12 +29,12 @@ pub refused-start-changes-nothing : (max : ℕ) (r : Record) (operation order : 
 unfolding startOf
 refused-start-changes-nothing max r operation order =
     let next = begun operation order in
-    unless-keeps (startRefusal max r operation order) r (goesOn next) (going-on-keeps r next)
+    unless-keeps (startRefusal max r operation order) r (goingOn next) (going-on-keeps r next)
 
 pub refused-withdraw-changes-nothing : (max : ℕ) (r : Record) → RefusedKeeps r (withdrawOf max r)
 unfolding withdrawOf
 refused-withdraw-changes-nothing max r =
-    unless-keeps (withdrawRefusal max r) r (goesOn idle) (going-on-keeps r idle)
+    unless-keeps (withdrawRefusal max r) r (goingOn idle) (going-on-keeps r idle)
 
 pub idle-is-valid : (max : ℕ) → validOf max idle ≡ true
 idle-is-valid max = at-valid max idle (ValidAt.at0 refl refl)
@@ -46,10 +46,10 @@ begun-is-valid max operation order known ordered =
 
 -- a call that passes its checks leaves `next`, a refused one the record itself
 unless-valid : (max number : ℕ) (r next : Record) → validOf max r ≡ true → (number ≡ 0 → validOf max next ≡ true)
-    → validOf max (unless number r (goesOn next) .rec) ≡ true
+    → validOf max (unless number r (goingOn next) .rec) ≡ true
 unless-valid max number r next valid then = go (eqb number 0) refl
   where
-    go : (none : Bool) → eqb number 0 ≡ none → validOf max (pick none (goesOn next) (refused number r) .rec) ≡ true
+    go : (none : Bool) → eqb number 0 ≡ none → validOf max (pick none (goingOn next) (refused number r) .rec) ≡ true
     go true e = then (eqb-true number 0 e)
     go false e = valid
 

@@ -31,8 +31,8 @@ carriedOf (Refused number) = 0
 abbrev pub isRefusal : (number : ℕ) → Bool
 isRefusal number = leb 1 number && leb number 12
 
-abbrev pub goesOn : Record → Answered
-goesOn r = record { answer = GoesOn; rec = r }
+abbrev pub goingOn : Record → Answered
+goingOn r = record { answer = GoesOn; rec = r }
 
 -- after a result the record is all zero
 abbrev pub ends : Answer → Answered

@@ -6,7 +6,7 @@ use Rattle.logic.specs.Pick.{pick}
 use Rattle.party.specs.Operation.{orderFits}
 use Rattle.party.specs.Record.{idle, begun}
 use Rattle.party.specs.Valid.{isIdle, validOf}
-use Rattle.party.specs.Answer.{goesOn, unless}
+use Rattle.party.specs.Answer.{goingOn, unless}
 use Rattle.party.specs.declared.Record.{Record}
 use Rattle.party.specs.declared.Answered.{Answered}
 
@@ -24,7 +24,7 @@ startRefusal max r operation order =
     pick (not (maxFits max)) 1 (pick (ltb 3 operation) 11 (startOwn max r operation order))
 
 unfoldable pub startOf : (max : ℕ) → Record → (operation order : ℕ) → Answered
-startOf max r operation order = unless (startRefusal max r operation order) r (goesOn (begun operation order))
+startOf max r operation order = unless (startRefusal max r operation order) r (goingOn (begun operation order))
 
 -- those of a withdrawal: not valid, idle
 unfoldable pub withdrawOwn : (max : ℕ) → Record → ℕ
@@ -34,4 +34,4 @@ unfoldable pub withdrawRefusal : (max : ℕ) → Record → ℕ
 withdrawRefusal max r = pick (not (maxFits max)) 1 (withdrawOwn max r)
 
 unfoldable pub withdrawOf : (max : ℕ) → Record → Answered
-withdrawOf max r = unless (withdrawRefusal max r) r (goesOn idle)
+withdrawOf max r = unless (withdrawRefusal max r) r (goingOn idle)

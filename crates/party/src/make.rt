@@ -4,7 +4,7 @@ use crate::Answered;
 use crate::Record;
 ghost use mathlib.Core.Path.{_≡_};
 ghost use Rattle.party.specs.Record.{idle, begun, again, atStage, withPlace, withFirst, withSecond};
-ghost use Rattle.party.specs.Answer.{goesOn, ends, refused};
+ghost use Rattle.party.specs.Answer.{goingOn, ends, refused};
 
 pub fn idle_record() -> Record
     ensures { λ r. ⌜ r ≡ idle ⌝ }
@@ -67,7 +67,7 @@ pub fn with_second(word: u64, mut r: Record) -> Record
 }
 
 pub fn going_on(r: Record) -> Answered
-    ensures { λ got. ⌜ got ≡ goesOn r ⌝ }
+    ensures { λ got. ⌜ got ≡ goingOn r ⌝ }
 {
     Answered {
         answer: Answer::GoesOn,

@@ -15,7 +15,7 @@ use denote.Memory.{lone}
 use denote.Array.{Array, array-typed}
 use denote.Slice.{Room}
 use denote.Struct.Laws as LL
-use Rattle.lent.proofs.Loans.{array-val, IsArray}
+use Rattle.walks.proofs.Loans.{array-val, IsArray}
 use Rattle.party.specs.declared.Record.{Record}
 use Rattle.party.proofs.Record as R
 use Rattle.party.proofs.Record.Laws as R′

@@ -11,10 +11,10 @@ use Rattle.party.specs.Valid.{isIdle, validOf, placeFits}
 use Rattle.party.specs.declared.Record.{Record}
 use Rattle.party.proofs.Stages.{ValidAt, valid-at}
 use Rattle.party.proofs.Places.{inside}
-use Rattle.step.specs.Table.{near, lineOf}
+use Rattle.step.specs.Stages.{near, accessOf}
 use Rattle.step.specs.Step.{stripFits, maxOf, hintFits, stepOwn, stepRefusal, aimed}
-use Rattle.step.specs.declared.Line.{Line}
-use Rattle.step.specs.declared.Line.the-variants.{Look, Swap}
+use Rattle.step.specs.declared.Access.{Access}
+use Rattle.step.specs.declared.Access.the-variants.{Look, Swap}
 
 pub strip-within : (words : ℕ) → stripFits words ≡ true → (3 ≤ words) × (words ≤ 4096)
 strip-within words e =
@@ -53,28 +53,29 @@ steppable words r hint e =
       aimed-fits = aims max r hint (past6 .0) (valid-at max r valid) (not-false (hintFits max r hint) (past8 .0));
     }
 
-abbrev pub placeOf : Line → ℕ
+abbrev pub placeOf : Access → ℕ
 placeOf (Look place then) = place
 placeOf (Swap place from to then) = place
 
--- every line of the table works at k or at its neighbour
-place-is : (P : ℕ → Type 0) (r : Record) → P (r .k) → P (near r) → P (placeOf (lineOf r))
-unfolding lineOf
+-- every stage works at k or at its neighbour
+place-is : (P : ℕ → Type 0) (r : Record) → P (r .k) → P (near r) → P (placeOf (accessOf r))
+unfolding accessOf
 place-is P r at-k at-near =
     whichever Q (eqb (r .stage) 1) at-near
     (whichever Q (eqb (r .stage) 2) at-k
     (whichever Q (eqb (r .stage) 3) at-near
-    (whichever Q (eqb (r .stage) 4) (whichever Q push at-near at-k) (whichever Q push at-k at-near))))
+    (whichever Q (eqb (r .stage) 4) (whichever Q push at-near at-k)
+    (whichever Q (eqb (r .stage) 5) (whichever Q push at-k at-near) at-k))))
   where
-    Q : Line → Type 0
-    Q line = P (placeOf line)
+    Q : Access → Type 0
+    Q access = P (placeOf access)
 
     push : Bool
     push = isPush (r .operation)
 
 -- the access of a step that no check refused stays inside the strip
 pub place-inside : (words : ℕ) (r : Record) (hint : ℕ) → Steppable words r hint
-    → placeOf (lineOf (aimed r hint)) < words
+    → placeOf (accessOf (aimed r hint)) < words
 place-inside words r hint clear =
     let within = strip-within words (clear .strip-fits) in
     let at = inside (maxOf words) (r .operation) (aimed r hint .k) (clear .aimed-fits) in

@@ -1,6 +1,6 @@
 pub mod Cleared
-pub mod Lines
-pub mod Stages
+pub mod Accesses
+pub mod EachStage
 pub mod Went
 pub mod Kept
 pub mod Calls

@@ -16,19 +16,19 @@ use Rattle.word.proofs.Laws.{SwapGoes, swap-goes}
 use Rattle.party.specs.Operation.{isPush}
 use Rattle.party.specs.Record.{again, atStage, withPlace, withFirst, withSecond}
 use Rattle.party.specs.Valid.{isIdle, validOf}
-use Rattle.party.specs.Answer.{isRefusal, goesOn, ends, refused}
+use Rattle.party.specs.Answer.{isRefusal, goingOn, ends, refused}
 use Rattle.party.specs.declared.Record.{Record}
 use Rattle.party.specs.declared.Answered.{Answered}
 use Rattle.party.specs.declared.Answer.the-variants.{Pushed, Popped, Full, Empty}
 use Rattle.party.proofs.Stages.{ValidAt, valid-at}
-use Rattle.step.specs.Table.{near, own, atPlace, atNear, lineOf}
+use Rattle.step.specs.Stages.{near, own, atPlace, atNear, accessOf}
 use Rattle.step.specs.Follow.{misled, pushAtWall, popAtFar, judgeOf, recheckOf, wonOf, swappedOf}
 use Rattle.step.specs.Step.{stripFits, maxOf, hintFits, stepOwn, stepRefusal, stepOf, stepLeaves}
 use Rattle.step.specs.declared.AfterSwap.{AfterSwap}
-use Rattle.step.specs.declared.Line.the-variants.{Swap}
+use Rattle.step.specs.declared.Access.the-variants.{Swap}
 use Rattle.step.proofs.Cleared.{Steppable, steppable}
-use Rattle.step.proofs.Lines.{when-refused, when-looks, when-swaps}
-use Rattle.step.proofs.Stages.{stage-1, stage-2, stage-3, stage-4-push, stage-4-pop, stage-5-push, stage-5-pop, aimed-first, aimed-later}
+use Rattle.step.proofs.Accesses.{when-refused, when-looks, when-swaps}
+use Rattle.step.proofs.EachStage.{stage-1, stage-2, stage-3, stage-4-push, stage-4-pop, stage-5-push, stage-5-pop, aimed-first, aimed-later}
 
 -- a swap that won met the word it expected, whose counter was not at its end
 pub record Took (met from : ℕ) : Type 0 where
@@ -42,25 +42,25 @@ module _ (strip : List ℕ) (r : Record) (hint : ℕ) where
 
   pub data GoneOn : Type 0 where
     remembers : r .stage ≡ 1
-        → Gone (goesOn (atStage 2 (withFirst (atNear strip (withPlace hint r)) (withPlace hint r)))) strip → GoneOn
-    drops : r .stage ≡ 2 → misled r (atPlace strip r) ≡ true → Gone (goesOn (again r)) strip → GoneOn
+        → Gone (goingOn (atStage 2 (withFirst (atNear strip (withPlace hint r)) (withPlace hint r)))) strip → GoneOn
+    drops : r .stage ≡ 2 → misled r (atPlace strip r) ≡ true → Gone (goingOn (again r)) strip → GoneOn
     fills : r .stage ≡ 2 → misled r (atPlace strip r) ≡ false → pushAtWall (maxOf (length strip)) r ≡ true
         → Gone (ends Full) strip → GoneOn
     doubts : r .stage ≡ 2 → misled r (atPlace strip r) ≡ false → popAtFar r ≡ true
-        → Gone (goesOn (atStage 3 (withSecond (atPlace strip r) r))) strip → GoneOn
+        → Gone (goingOn (atStage 3 (withSecond (atPlace strip r) r))) strip → GoneOn
     readies : r .stage ≡ 2 → misled r (atPlace strip r) ≡ false → pushAtWall (maxOf (length strip)) r ≡ false → popAtFar r ≡ false
-        → Gone (goesOn (atStage 4 (withSecond (atPlace strip r) r))) strip → GoneOn
+        → Gone (goingOn (atStage 4 (withSecond (atPlace strip r) r))) strip → GoneOn
     empties : r .stage ≡ 3 → atNear strip r ≡ r .first → Gone (ends Empty) strip → GoneOn
-    rechecks : r .stage ≡ 3 → (atNear strip r ≡ r .first → ⊥) → Gone (goesOn (atStage 4 r)) strip → GoneOn
+    rechecks : r .stage ≡ 3 → (atNear strip r ≡ r .first → ⊥) → Gone (goingOn (atStage 4 r)) strip → GoneOn
     push-4 : r .stage ≡ 4 → isPush (r .operation) ≡ true → Took (atNear strip r) (r .first)
-        → Gone (goesOn (atStage 5 r)) (set strip (near r) (raisedTo (r .first) (valueOf (r .first)))) → GoneOn
+        → Gone (goingOn (atStage 5 r)) (set strip (near r) (raisedTo (r .first) (valueOf (r .first)))) → GoneOn
     pop-4 : r .stage ≡ 4 → isPush (r .operation) ≡ false → Took (atPlace strip r) (r .second)
-        → Gone (goesOn (atStage 5 r)) (set strip (r .k) (raisedTo (r .second) (own r))) → GoneOn
+        → Gone (goingOn (atStage 5 r)) (set strip (r .k) (raisedTo (r .second) (own r))) → GoneOn
     push-5 : r .stage ≡ 5 → isPush (r .operation) ≡ true → Took (atPlace strip r) (r .second)
         → Gone (ends Pushed) (set strip (r .k) (raisedTo (r .second) (r .v))) → GoneOn
     pop-5 : r .stage ≡ 5 → isPush (r .operation) ≡ false → Took (atNear strip r) (r .first)
         → Gone (ends (Popped (valueOf (r .first)))) (set strip (near r) (raisedTo (r .first) (own r))) → GoneOn
-    loses : Gone (goesOn (again r)) strip → GoneOn
+    loses : Gone (goingOn (again r)) strip → GoneOn
 
   -- refused by a check, or by a swap at its counter's end; or gone on
   pub data Went : Type 0 where
@@ -124,11 +124,11 @@ module _ (strip : List ℕ) (r : Record) (hint : ℕ) (passes : stepRefusal (len
       go true e = goes clear (empties s (eqb-true word (r .first) e) (simp e at looked))
       go false e = goes clear (rechecks s (eqb-false word (r .first) e) (simp e at looked))
 
-  -- a swap of a line: stuck, lost, or won, where the case says what that is
-  swapping : (place from to : ℕ) (then : AfterSwap) → (r .stage ≡ 1 → ⊥) → lineOf r ≡ Swap place from to then
+  -- the swap of a stage: stuck, lost, or won, where the case says what that is
+  swapping : (place from to : ℕ) (then : AfterSwap) → (r .stage ≡ 1 → ⊥) → accessOf r ≡ Swap place from to then
       → (Took (getD strip place 0) from → Gone strip r hint (wonOf r then) (set strip place (raisedTo from to)) → GoneOn strip r hint)
       → Went strip r hint
-  swapping place from to then later line won = go (swap-goes (getD strip place 0) from)
+  swapping place from to then later access won = go (swap-goes (getD strip place 0) from)
     where
       met : ℕ
       met = getD strip place 0
@@ -140,7 +140,7 @@ module _ (strip : List ℕ) (r : Record) (hint : ℕ) (passes : stepRefusal (len
       swapped =
           let step =
           when-swaps strip r r hint passes (aimed-later r hint later) place from to then (swapOf met from)
-          (wordsAfter (swapOf met from) strip place (raisedTo from to)) line (record { answered = refl; words = refl }) in
+          (wordsAfter (swapOf met from) strip place (raisedTo from to)) access (record { answered = refl; words = refl }) in
           record { answered = sym (step .0); words = sym (step .1) }
 
       go : SwapGoes met from → Went strip r hint

@@ -9,11 +9,11 @@ use Rattle.word.specs.declared.Swapped.the-variants.{Won, Lost, Stuck}
 use Rattle.party.specs.Operation.{isPush}
 use Rattle.party.specs.Record.{again, atStage, withFirst, withSecond}
 use Rattle.party.specs.Valid.{atWall}
-use Rattle.party.specs.Answer.{goesOn, ends, refused}
+use Rattle.party.specs.Answer.{goingOn, ends, refused}
 use Rattle.party.specs.declared.Record.{Record}
 use Rattle.party.specs.declared.Answered.{Answered}
 use Rattle.party.specs.declared.Answer.the-variants.{Pushed, Popped, Full, Empty}
-use Rattle.step.specs.Table.{own, far}
+use Rattle.step.specs.Stages.{own, far}
 use Rattle.step.specs.declared.AfterLook.{AfterLook}
 use Rattle.step.specs.declared.AfterLook.the-variants.{Remember, Judge, Recheck}
 use Rattle.step.specs.declared.AfterSwap.{AfterSwap}
@@ -32,27 +32,27 @@ popAtFar r = not (isPush (r .operation)) && eqb (valueOf (r .first)) (far r)
 -- stage 2, by the word that it read
 unfoldable pub judgeOf : (max : ℕ) → Record → (word : ℕ) → Answered
 judgeOf max r word =
-    pick (misled r word) (goesOn (again r))
+    pick (misled r word) (goingOn (again r))
     (pick (pushAtWall max r) (ends Full)
-    (pick (popAtFar r) (goesOn (atStage 3 (withSecond word r)))
-    (goesOn (atStage 4 (withSecond word r)))))
+    (pick (popAtFar r) (goingOn (atStage 3 (withSecond word r)))
+    (goingOn (atStage 4 (withSecond word r)))))
 
 -- stage 3, by the word that it read: equal to the first word, or on as the source does
 unfoldable pub recheckOf : Record → (word : ℕ) → Answered
-recheckOf r word = pick (eqb word (r .first)) (ends Empty) (goesOn (atStage 4 r))
+recheckOf r word = pick (eqb word (r .first)) (ends Empty) (goingOn (atStage 4 r))
 
 abbrev pub lookedOf : (max : ℕ) → Record → AfterLook → (word : ℕ) → Answered
-lookedOf max r Remember word = goesOn (atStage 2 (withFirst word r))
+lookedOf max r Remember word = goingOn (atStage 2 (withFirst word r))
 lookedOf max r Judge word = judgeOf max r word
 lookedOf max r Recheck word = recheckOf r word
 
 abbrev pub wonOf : Record → AfterSwap → Answered
-wonOf r Onward = goesOn (atStage 5 r)
+wonOf r Onward = goingOn (atStage 5 r)
 wonOf r Push = ends Pushed
 wonOf r Pop = ends (Popped (valueOf (r .first)))
 
 -- a lost swap goes to stage 1; one that would win at the counter's end is 9
 abbrev pub swappedOf : Record → AfterSwap → Swapped → Answered
 swappedOf r then Won = wonOf r then
-swappedOf r then (Lost met) = goesOn (again r)
+swappedOf r then (Lost met) = goingOn (again r)
 swappedOf r then Stuck = refused 9 r

@@ -1,4 +1,4 @@
-pub mod Table
+pub mod Stages
 pub mod Follow
 pub mod Step
 pub mod Call

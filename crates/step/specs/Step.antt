@@ -14,10 +14,10 @@ use Rattle.party.specs.Valid.{isIdle, validOf}
 use Rattle.party.specs.Answer.{unless, Gives}
 use Rattle.party.specs.declared.Record.{Record}
 use Rattle.party.specs.declared.Answered.{Answered}
-use Rattle.step.specs.Table.{lineOf}
+use Rattle.step.specs.Stages.{accessOf}
 use Rattle.step.specs.Follow.{lookedOf, swappedOf}
-use Rattle.step.specs.declared.Line.{Line}
-use Rattle.step.specs.declared.Line.the-variants.{Look, Swap}
+use Rattle.step.specs.declared.Access.{Access}
+use Rattle.step.specs.declared.Access.the-variants.{Look, Swap}
 
 -- a strip has MAX+2 words, 3 to 4,096
 abbrev pub stripFits : (words : ℕ) → Bool
@@ -41,22 +41,22 @@ stepRefusal words r hint = pick (not (stripFits words)) 1 (stepOwn (maxOf words)
 abbrev pub aimed : Record → (hint : ℕ) → Record
 aimed r hint = withPlace (pick (eqb (r .stage) 1) hint (r .k)) r
 
--- the one access of a line: what follows it, and the words it leaves
-abbrev pub followed : List ℕ → Record → Line → Answered
+-- one access: what follows it, and the words it leaves
+abbrev pub followed : List ℕ → Record → Access → Answered
 followed strip r (Look place then) = lookedOf (maxOf (length strip)) r then (getD strip place 0)
 followed strip r (Swap place from to then) = swappedOf r then (swapOf (getD strip place 0) from)
 
-abbrev pub written : List ℕ → Line → List ℕ
+abbrev pub written : List ℕ → Access → List ℕ
 written strip (Look place then) = strip
 written strip (Swap place from to then) = wordsAfter (swapOf (getD strip place 0) from) strip place (raisedTo from to)
 
 unfoldable pub stepOf : List ℕ → Record → (hint : ℕ) → Answered
 stepOf strip r hint =
-    unless (stepRefusal (length strip) r hint) r (followed strip (aimed r hint) (lineOf (aimed r hint)))
+    unless (stepRefusal (length strip) r hint) r (followed strip (aimed r hint) (accessOf (aimed r hint)))
 
 unfoldable pub stepLeaves : List ℕ → Record → (hint : ℕ) → List ℕ
 stepLeaves strip r hint =
-    pick (eqb (stepRefusal (length strip) r hint) 0) (written strip (lineOf (aimed r hint))) strip
+    pick (eqb (stepRefusal (length strip) r hint) 0) (written strip (accessOf (aimed r hint))) strip
 
 -- What step promises: the number, the carried order, the record and every word of the strip it was lent.
 pub record StepPromise (strip : List ℕ) (r : Record) (hint : ℕ) (got : Answered) (left : List ℕ) : Type 0 where

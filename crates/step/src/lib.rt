@@ -1,10 +1,10 @@
 // The step: the table of stages, and one access for each call.
 pub mod follow;
-pub mod table;
+pub mod stages;
 
 use crate::follow::looked;
 use crate::follow::swapped;
-use crate::table::line;
+use crate::stages::access;
 use logic::pick_u32;
 use party::Answered;
 use party::Record;
@@ -33,8 +33,8 @@ pub enum AfterSwap {
     Pop,
 }
 
-// A line of the table: one access, and what follows it. A swap goes from a word to a value.
-pub enum Line {
+// What a stage does: one access, and what follows it. A swap goes from a word to a value.
+pub enum Access {
     Look(u32, AfterLook),
     Swap(u32, u64, u32, AfterSwap),
 }
@@ -116,9 +116,9 @@ pub fn step(strip: &mut [u64], r: Record, hint: u32) -> Answered
     }
     let max = (strip.len() - 2) as u16;
     let at = aim(r, hint);
-    match line(at) {
-        Line::Look(place, then) => looked(max, at, then, look(strip, place as usize)),
-        Line::Swap(place, from, to, then) => swapped(
+    match access(at) {
+        Access::Look(place, then) => looked(max, at, then, look(strip, place as usize)),
+        Access::Swap(place, from, to, then) => swapped(
             at,
             then,
             swap(strip, place as usize, from, to),

@@ -11,7 +11,7 @@ use Rattle.logic.proofs.Bools.{both, passed}
 use Rattle.step.specs.Step.{stripFits, maxOf}
 use Rattle.step.specs.Call.{tableFits}
 use Rattle.image.specs.Format.{lengthOf, maxAt, partiesAt, headerRefusal}
-use Rattle.image.proofs.Accepted.{accepted}
+use Rattle.image.proofs.Sizes.{header-sized}
 use Rattle.image.proofs.Gated.{passed-number}
 use Rattle.whole.specs.Whole.{allBelow, lentFits, isSound, agrees, readRefusal, sizesAgree}
 
@@ -81,7 +81,7 @@ readable image words parties e =
       words-agree = eqb-true words (maxAt image + 2) (agree .0);
       parties-agree = eqb-true parties (partiesAt image) (agree .1);
       sound = not-false _ (past4 .0);
-      exact = accepted image (past2 .0) .exact;
+      exact = header-sized image (past2 .0) .exact;
     }
 
 -- the sizes of one that is written

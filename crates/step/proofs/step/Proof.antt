@@ -3,15 +3,15 @@ use Prim.Native.Nat.{ℕ, _<_}
 use mathlib.Core.List.{List}
 use mathlib.Core.Path.{_≡_, sym, _∙_, ap, subst}
 use Rattle.party.specs.declared.Record.{Record}
-use Rattle.step.specs.Table.{lineOf}
+use Rattle.step.specs.Stages.{accessOf}
 use Rattle.step.specs.Step.{stepRefusal}
-use Rattle.step.specs.declared.Line.{Line}
+use Rattle.step.specs.declared.Access.{Access}
 use denote.Ref.{now}
 use lib.ListN.{length}
 use Rattle.party.specs.Answer.{refused}
 use Rattle.party.proofs.Gives.{gives}
 use Rattle.step.proofs.Cleared.{Steppable, steppable, strip-within, placeOf, place-inside, hint-fits-k}
-use Rattle.step.proofs.Lines.{when-refused, when-looks, when-swaps}
+use Rattle.step.proofs.Accesses.{when-refused, when-looks, when-swaps}
 use borrow.Author.Needs.{needs}
 use Rattle.step.proofs.step.Statement.{statement}
 use Rattle.step.proofs.step.Tie as tie
@@ -33,11 +33,11 @@ passes c = sym (c .before .step-refusal .ensures) ∙ c .if1 .left
 cleared : (c : tie.Else1) → Steppable (length (strip-of c)) (record-of c) (hint-of c)
 cleared c = steppable _ _ _ (passes c)
 
--- the place of the line that was found is inside the strip
-inside-at : (c : tie.After-line) (l : Line) → c .line .result ≡ l → placeOf l < length (strip-of (c .before .before))
+-- the place of the access that was found is inside the strip
+inside-at : (c : tie.After-access) (l : Access) → c .access .result ≡ l → placeOf l < length (strip-of (c .before .before))
 inside-at c l e =
-    subst (λ (m : Line). placeOf m < length (strip-of (c .before .before)))
-    (ap lineOf (sym (c .before .aim .ensures)) ∙ sym (c .line .ensures) ∙ e)
+    subst (λ (m : Access). placeOf m < length (strip-of (c .before .before)))
+    (ap accessOf (sym (c .before .aim .ensures)) ∙ sym (c .access .ensures) ∙ e)
     (place-inside _ _ _ (cleared (c .before .before)))
 
 step-refusal-requires : tie.Need-step-refusal-requires
@@ -65,8 +65,8 @@ cast-max c = omega (arith, strip-within (length (strip-of c)) (cleared c .strip-
 aim-requires : tie.Need-aim-requires
 aim-requires c κs = hint-fits-k _ _ _ (cleared c)
 
-line-requires : tie.Need-line-requires
-line-requires c κs = search needs
+access-requires : tie.Need-access-requires
+access-requires c κs = search needs
 
 enum-known-place : tie.Need-enum-known-place
 enum-known-place c = search needs
@@ -103,8 +103,8 @@ returns-2 : tie.Need-returns-2
 returns-2 c =
     let found = c .before .before .before .before in
     let at = found .before .before in
-    let line = sym (at .line .ensures) ∙ found .place .given .1 in
-    let step = when-looks _ _ _ _ (passes (at .before .before)) (at .before .aim .ensures) _ _ _ line (c .before .look .ensures) in
+    let access = sym (at .access .ensures) ∙ found .place .given .1 in
+    let step = when-looks _ _ _ _ (passes (at .before .before)) (at .before .aim .ensures) _ _ _ access (c .before .look .ensures) in
     record { gives = gives (c .looked .ensures ∙ step .0); words = step .1 }
 
 same-length-2 : tie.Need-same-length-2
@@ -115,8 +115,8 @@ returns-3 c =
     let swap = c .before .before .before in
     let found = swap .before .before .before in
     let at = found .before .before in
-    let line = sym (at .line .ensures) ∙ found .place2 .given .1 in
-    let step = when-swaps _ _ _ _ (passes (at .before .before)) (at .before .aim .ensures) _ _ _ _ _ _ line (swap .swap .ensures) in
+    let access = sym (at .access .ensures) ∙ found .place2 .given .1 in
+    let step = when-swaps _ _ _ _ (passes (at .before .before)) (at .before .aim .ensures) _ _ _ _ _ _ access (swap .swap .ensures) in
     record { gives = gives (c .swapped .ensures ∙ step .0); words = step .1 }
 
 pub step-spec : {M : Type 1} → statement M
@@ -129,7 +129,7 @@ step-spec =
     sub-max
     cast-max
     aim-requires
-    line-requires
+    access-requires
     enum-known-place
     cast-look
     look-requires

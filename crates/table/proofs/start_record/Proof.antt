@@ -2,13 +2,13 @@
 -- `start_told`, what it tells is stored and the borrow closed.
 use Prim.Native.Nat.{ℕ, _<_, _^_}
 use denote.Struct.Laws as LL
-use Rattle.lent.proofs.Prelude.{_≡_, refl, List, [], _∷_, URA, named, w32, Val, vint, vptr, SProp, ent, emp, via, fst∗, id⊢}
-use Rattle.lent.proofs.Prelude.{GName, Lft, Share, ftrue, flft, fobs, fbor, Memory, Routine, Heap, Calls, Loops, WpFn, Tables, Atoms, Fun, givenOf, tables, tablesOf}
-use Rattle.lent.proofs.Prelude.{Given, ‵, raw, ⋆, _⊛_, _$_, _∵_, !, qed, by, move, keep, use0, split, join, fsplit, fsplit3, fjoin, suffices, frame, done}
-use Rattle.lent.proofs.Prelude.{look, look-raw, store-raw, init, stop, hop, fld, from, load, of-opd, and-then, no-more, assigns, land, returns, enter, alloc1, alloc0, params1, pass1, pass0, free0, whole, sub, look-in}
-use Rattle.lent.proofs.Prelude.{FmC, fmOf, WpFn-mono, owns, Is, Body, mem, uint-vals, uint-tells, u32, RefT, MutRef, ptr-vals, mut-tells, plain, owned, nothing}
-use Rattle.lent.proofs.Prelude.{onEntry, Meets, tripleOf, Contract, Triple, calls-at, entered, cited, says, Stays, stay-ref, stay-none, walkOf, goes-none, goes-ref, ends-at, walked, walk-meets, yes}
-use Rattle.lent.proofs.Steps.{opens-struct, closes-struct, after-plain-call, frees-local, with-u32, with-struct, keeps-ref, result-struct}
+use Rattle.walks.proofs.Prelude.{_≡_, refl, List, [], _∷_, URA, named, w32, Val, vint, vptr, SProp, ent, emp, via, fst∗, id⊢}
+use Rattle.walks.proofs.Prelude.{GName, Lft, Share, ftrue, flft, fobs, fbor, Memory, Routine, Heap, Calls, Loops, WpFn, Tables, Atoms, Fun, givenOf, tables, tablesOf}
+use Rattle.walks.proofs.Prelude.{Given, ‵, raw, ⋆, _⊛_, _$_, _∵_, !, qed, by, move, keep, use0, split, join, fsplit, fsplit3, fjoin, suffices, frame, done}
+use Rattle.walks.proofs.Prelude.{look, look-raw, store-raw, init, stop, hop, fld, from, load, of-opd, and-then, no-more, assigns, land, returns, enter, alloc1, alloc0, params1, pass1, pass0, free0, whole, sub, look-in}
+use Rattle.walks.proofs.Prelude.{FmC, fmOf, WpFn-mono, owns, Is, Body, mem, uint-vals, uint-tells, u32, RefT, MutRef, ptr-vals, mut-tells, plain, owned, nothing}
+use Rattle.walks.proofs.Prelude.{onEntry, Meets, tripleOf, Contract, Triple, calls-at, entered, cited, says, Stays, stay-ref, stay-none, walkOf, goes-none, goes-ref, ends-at, walked, walk-meets, yes}
+use Rattle.walks.proofs.Steps.{opens-struct, closes-struct, after-plain-call, frees-local, with-u32, with-struct, keeps-ref, result-struct}
 use Rattle.party.specs.declared.Record.{Record}
 use Rattle.party.proofs.Record as R
 use Rattle.party.proofs.Record.Laws as R′

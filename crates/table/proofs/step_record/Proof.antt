@@ -3,13 +3,13 @@
 use Prim.Native.Nat.{ℕ, _<_, _^_}
 use lib.ListN.{length}
 use denote.Struct.Laws as LL
-use Rattle.lent.proofs.Prelude.{_≡_, refl, List, [], _∷_, URA, named, w32, Val, vint, vptr, SProp, ent, sep, emp, via, fst∗, id⊢}
-use Rattle.lent.proofs.Prelude.{GName, Lft, Share, ftrue, flft, fobs, fbor, finally, Memory, Routine, Heap, Calls, Loops, WpFn, Tables, Atoms, sem, Fun, givenOf, tables, tablesOf}
-use Rattle.lent.proofs.Prelude.{Given, ‵, raw, ⋆, _⊛_, _$_, _∵_, !, qed, by, move, keep, use1, use2, split, join, fsplit, fsplit3, fjoin, feqL, suffices, frame, done}
-use Rattle.lent.proofs.Prelude.{look, look-raw, store-raw, init, stop, hop, fld, from, load, addr, of-opd, and-then, no-more, assigns, land, returns, enter, alloc1, alloc0, params1, pass1, pass0, free0, agg, whole, sub, look-in}
-use Rattle.lent.proofs.Prelude.{FmC, fmOf, WpFn-mono, owns, Is, Body, mem, uint-vals, uint-tells, u32, u64, RefT, MutRef, MutSlice, sliceVal, slice-vals, ptr-vals, mut-tells, mut-slice-tells, Room, plain, owned, heard, nothing}
-use Rattle.lent.proofs.Prelude.{onEntry, Meets, tripleOf, Contract, Triple, calls-at, entered, cited, says, Stays, gave-slice, stay-ref, stay-none, walkOf, goes-none, goes-ref, goes-gave-slice, ends-at, walked, walk-meets, yes}
-use Rattle.lent.proofs.Steps.{opens-struct, closes-struct, after-call, frees-local, with-u32, with-struct, keeps-ref, result-struct}
+use Rattle.walks.proofs.Prelude.{_≡_, refl, List, [], _∷_, URA, named, w32, Val, vint, vptr, SProp, ent, sep, emp, via, fst∗, id⊢}
+use Rattle.walks.proofs.Prelude.{GName, Lft, Share, ftrue, flft, fobs, fbor, finally, Memory, Routine, Heap, Calls, Loops, WpFn, Tables, Atoms, sem, Fun, givenOf, tables, tablesOf}
+use Rattle.walks.proofs.Prelude.{Given, ‵, raw, ⋆, _⊛_, _$_, _∵_, !, qed, by, move, keep, use1, use2, split, join, fsplit, fsplit3, fjoin, feqL, suffices, frame, done}
+use Rattle.walks.proofs.Prelude.{look, look-raw, store-raw, init, stop, hop, fld, from, load, addr, of-opd, and-then, no-more, assigns, land, returns, enter, alloc1, alloc0, params1, pass1, pass0, free0, agg, whole, sub, look-in}
+use Rattle.walks.proofs.Prelude.{FmC, fmOf, WpFn-mono, owns, Is, Body, mem, uint-vals, uint-tells, u32, u64, RefT, MutRef, MutSlice, sliceVal, slice-vals, ptr-vals, mut-tells, mut-slice-tells, Room, plain, owned, heard, nothing}
+use Rattle.walks.proofs.Prelude.{onEntry, Meets, tripleOf, Contract, Triple, calls-at, entered, cited, says, Stays, gave-slice, stay-ref, stay-none, walkOf, goes-none, goes-ref, goes-gave-slice, ends-at, walked, walk-meets, yes}
+use Rattle.walks.proofs.Steps.{opens-struct, closes-struct, after-call, frees-local, with-u32, with-struct, keeps-ref, result-struct}
 use Rattle.party.specs.declared.Record.{Record}
 use Rattle.party.proofs.Record as R
 use Rattle.party.proofs.Record.Laws as R′

@@ -2,13 +2,13 @@
 -- good, to `read_strip` and to `read_table`.
 use Prim.Native.Nat.{ℕ, _+_, _*_, _≤_, _<_, _^_}
 use lib.ListN.{length}
-use Rattle.lent.proofs.Prelude.{_≡_, refl, List, [], _∷_, lit<, URA, named, w32, w64, Val, vint, SProp, ent, sep, emp, via, fst∗, id⊢}
-use Rattle.lent.proofs.Prelude.{GName, Lft, Share, ftrue, flft, finally, Memory, Routine, Heap, Calls, Loops, WpFn, Tables, Atoms, sem, Fun, givenOf, tables, tablesOf}
-use Rattle.lent.proofs.Prelude.{Given, ‵, raw, ⋆, _⊛_, _$_, _∵_, !, qed, by, move, keep, drop, use1, use2, use3, split, join, fsplit, fjoin, feqL, suffices, frame, done}
-use Rattle.lent.proofs.Prelude.{look, store, init, stop, hop, fld, from, load, lit, addr, of-opd, bin, and-then, no-more, assigns, land, returns, returns-within, enter, alloc1, alloc0, params1, pass1, pass0, free0, agg, whole, sub, look-in}
-use Rattle.lent.proofs.Prelude.{FmC, fmOf, WpFn-mono, owns, Is, uint-makes, u8, u32, u64, RefT, MutSlice, ShrSlice, shr-slice-tells, sliceVal, slice-vals, mut-slice-tells, Room, plain, shrSliceOf, owned, heard, nothing}
-use Rattle.lent.proofs.Prelude.{onEntry, Meets, tripleOf, Contract, Triple, calls-at, entered, cited, says, Stays, stay-dropped, gave-slice, walkOf, goes-dropped, goes-gave-slice, ends-at, walked, walk-meets, yes}
-use Rattle.lent.proofs.Steps.{shares-on, gives-up, after-call, guards, frees-local, frees-room, with-usize, result-u32, result-unit, some-number, no-number}
+use Rattle.walks.proofs.Prelude.{_≡_, refl, List, [], _∷_, lit<, URA, named, w32, w64, Val, vint, SProp, ent, sep, emp, via, fst∗, id⊢}
+use Rattle.walks.proofs.Prelude.{GName, Lft, Share, ftrue, flft, finally, Memory, Routine, Heap, Calls, Loops, WpFn, Tables, Atoms, sem, Fun, givenOf, tables, tablesOf}
+use Rattle.walks.proofs.Prelude.{Given, ‵, raw, ⋆, _⊛_, _$_, _∵_, !, qed, by, move, keep, drop, use1, use2, use3, split, join, fsplit, fjoin, feqL, suffices, frame, done}
+use Rattle.walks.proofs.Prelude.{look, store, init, stop, hop, fld, from, load, lit, addr, of-opd, bin, and-then, no-more, assigns, land, returns, returns-within, enter, alloc1, alloc0, params1, pass1, pass0, free0, agg, whole, sub, look-in}
+use Rattle.walks.proofs.Prelude.{FmC, fmOf, WpFn-mono, owns, Is, uint-makes, u8, u32, u64, RefT, MutSlice, ShrSlice, shr-slice-tells, sliceVal, slice-vals, mut-slice-tells, Room, plain, shrSliceOf, owned, heard, nothing}
+use Rattle.walks.proofs.Prelude.{onEntry, Meets, tripleOf, Contract, Triple, calls-at, entered, cited, says, Stays, stay-dropped, gave-slice, walkOf, goes-dropped, goes-gave-slice, ends-at, walked, walk-meets, yes}
+use Rattle.walks.proofs.Steps.{shares-on, gives-up, after-call, guards, frees-local, frees-room, with-usize, result-u32, result-unit, some-number, no-number}
 use Rattle.party.specs.declared.Record.{Record}
 use Rattle.party.proofs.Record as R
 use Rattle.image.specs.Spelling.{wordsFrom, recordsFrom}

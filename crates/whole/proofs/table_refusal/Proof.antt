@@ -5,13 +5,13 @@ use native.Mathlib.Nat.{le-antisymm}
 use mathlib.Core.Path.{_∙_}
 use lib.ListN.{length, getD}
 use denote.Struct.Laws as LL
-use Rattle.lent.proofs.Prelude.{_≡_, refl, sym, ap, List, [], _∷_, zero-le, Holds, ltb, lit<, nltb→le, URA, fullShare, Ty, named, w32, w64, tyPtr, Val, vint, vptr, SProp, ent, emp, id⊢}
-use Rattle.lent.proofs.Prelude.{GName, Lft, Share, ftrue, flft, fat, froom, fdies, Memory, Routine, Heap, Out, Env, Calls, Loops, Wp, WpFn, Tables, atReturn, afterSeq, afterBlock, afterTurn, Atoms, Fun, givenOf, tables, tablesOf}
-use Rattle.lent.proofs.Prelude.{Given, Item, ‵, raw, ⋆, runs, anyQ, atRet, Sq, _⊛_, _$_, _∵_, !, qed, by, move, keep, use0, split, join, rewrite, fsplit, fjoin, suffices, frame, done}
-use Rattle.lent.proofs.Prelude.{look, look-raw, store, init, stop, hop, fld, from, load, lit, of-opd, bin, and-then, no-more, assigns, assigns-last, first, blocks, exec, Below, again, loops, forget, land, returns, enter, alloc1, alloc0, params1, pass1, pass0, free0, whole, sub, look-in}
-use Rattle.lent.proofs.Prelude.{fmOf, WpFn-mono, owns, Is, uint-vals, uint-tells, uint-makes, u32, usize, RefT, ShrSlice, shr-slice-tells, sliceVal, slice-vals, Room, place-is, plain, shrSliceOf, owned, nothing}
-use Rattle.lent.proofs.Prelude.{onEntry, Meets, tripleOf, Contract, Triple, calls-at, entered, cited, says, needs, Stays, stay-dropped, stay-none, walkOf, goes-none, goes-dropped, ends-at, walked, walk-meets, yes, scaled-fits}
-use Rattle.lent.proofs.Steps.{SharedAll, Upto, Nearer, nearer-wf, is-below, turn-fits, next-turn, is-nearer, localTy, goes-on, looks-element, shuts-element, after-plain-call, frees-local, frees-room, with-u32, with-usize, with-struct, result-u32}
+use Rattle.walks.proofs.Prelude.{_≡_, refl, sym, ap, List, [], _∷_, zero-le, Holds, ltb, lit<, nltb→le, URA, fullShare, Ty, named, w32, w64, tyPtr, Val, vint, vptr, SProp, ent, emp, id⊢}
+use Rattle.walks.proofs.Prelude.{GName, Lft, Share, ftrue, flft, fat, froom, fdies, Memory, Routine, Heap, Out, Env, Calls, Loops, Wp, WpFn, Tables, atReturn, afterSeq, afterBlock, afterTurn, Atoms, Fun, givenOf, tables, tablesOf}
+use Rattle.walks.proofs.Prelude.{Given, Item, ‵, raw, ⋆, runs, anyQ, atRet, Sq, _⊛_, _$_, _∵_, !, qed, by, move, keep, use0, split, join, rewrite, fsplit, fjoin, suffices, frame, done}
+use Rattle.walks.proofs.Prelude.{look, look-raw, store, init, stop, hop, fld, from, load, lit, of-opd, bin, and-then, no-more, assigns, assigns-last, first, blocks, exec, Below, again, loops, forget, land, returns, enter, alloc1, alloc0, params1, pass1, pass0, free0, whole, sub, look-in}
+use Rattle.walks.proofs.Prelude.{fmOf, WpFn-mono, owns, Is, uint-vals, uint-tells, uint-makes, u32, usize, RefT, ShrSlice, shr-slice-tells, sliceVal, slice-vals, Room, place-is, plain, shrSliceOf, owned, nothing}
+use Rattle.walks.proofs.Prelude.{onEntry, Meets, tripleOf, Contract, Triple, calls-at, entered, cited, says, needs, Stays, stay-dropped, stay-none, walkOf, goes-none, goes-dropped, ends-at, walked, walk-meets, yes, scaled-fits}
+use Rattle.walks.proofs.Steps.{SharedAll, Upto, Nearer, nearer-wf, is-below, turn-fits, next-turn, is-nearer, localTy, goes-on, looks-element, shuts-element, after-plain-call, frees-local, frees-room, with-u32, with-usize, with-struct, result-u32}
 use Rattle.logic.specs.Pick.{pick}
 use Rattle.party.specs.declared.Record.{Record}
 use Rattle.party.specs.Record.{idle}

@@ -6,13 +6,13 @@ use mathlib.Core.Path.{_∙_}
 use lib.ListN.{length, getD, take}
 use lib.Seq.{sets, length-sets, take-all}
 use denote.Struct.Laws as LL
-use Rattle.lent.proofs.Prelude.{_≡_, refl, sym, ap, List, [], _∷_, not, zero-le, Holds, ltb, lit<, nltb→le, URA, fullShare, Ty, named, w64, tyPtr, Val, vunit, vint, vptr, SProp, ent, sep, id⊢}
-use Rattle.lent.proofs.Prelude.{GName, Lft, Share, ftrue, flft, fat, froom, fdies, Memory, Routine, Heap, Out, Env, Calls, Loops, Wp, WpFn, Tables, atReturn, afterSeq, afterBlock, afterTurn, Atoms, sem, Fun, givenOf, tables, tablesOf}
-use Rattle.lent.proofs.Prelude.{Given, Item, ‵, raw, ⋆, runs, anyQ, atRet, Sq, _⊛_, _$_, _∵_, !, qed, by, move, keep, drop, use1, use2, split, join, rewrite, fsplit, fjoin, feqL, feqI, suffices, frame, done}
-use Rattle.lent.proofs.Prelude.{look, look-raw, store, init, stop, hop, fld, from, load, lit, addr, of-opd, bin, unit-lit, and-then, no-more, assigns, assigns-last, first, blocks, exec, Below, again, loops, forget, land, returns, enter, alloc1, alloc0, params1, pass1, pass0, free0, agg, whole, sub, look-in}
-use Rattle.lent.proofs.Prelude.{fmOf, WpFn-mono, owns, uint-vals, uint-tells, u8, usize, RefT, MutSlice, ShrSlice, shr-slice-tells, sliceVal, slice-vals, mut-slice-tells, Room, place-is, plain, shrSliceOf, heard, nothing}
-use Rattle.lent.proofs.Prelude.{onEntry, Meets, tripleOf, Contract, Triple, calls-at, entered, cited, says, needs, Stays, stay-dropped, stay-slice, stay-none, walkOf, goes-none, goes-dropped, goes-slice, ends-at, walked, walk-meets, yes, scaled-fits}
-use Rattle.lent.proofs.Steps.{SharedAll, Upto, Nearer, nearer-wf, is-below, turn-fits, next-turn, is-nearer, localTy, goes-on, looks-element, shuts-element, lends-on, comes-home, after-call, frees-local, frees-room, with-usize, with-struct, result-unit}
+use Rattle.walks.proofs.Prelude.{_≡_, refl, sym, ap, List, [], _∷_, not, zero-le, Holds, ltb, lit<, nltb→le, URA, fullShare, Ty, named, w64, tyPtr, Val, vunit, vint, vptr, SProp, ent, sep, id⊢}
+use Rattle.walks.proofs.Prelude.{GName, Lft, Share, ftrue, flft, fat, froom, fdies, Memory, Routine, Heap, Out, Env, Calls, Loops, Wp, WpFn, Tables, atReturn, afterSeq, afterBlock, afterTurn, Atoms, sem, Fun, givenOf, tables, tablesOf}
+use Rattle.walks.proofs.Prelude.{Given, Item, ‵, raw, ⋆, runs, anyQ, atRet, Sq, _⊛_, _$_, _∵_, !, qed, by, move, keep, drop, use1, use2, split, join, rewrite, fsplit, fjoin, feqL, feqI, suffices, frame, done}
+use Rattle.walks.proofs.Prelude.{look, look-raw, store, init, stop, hop, fld, from, load, lit, addr, of-opd, bin, unit-lit, and-then, no-more, assigns, assigns-last, first, blocks, exec, Below, again, loops, forget, land, returns, enter, alloc1, alloc0, params1, pass1, pass0, free0, agg, whole, sub, look-in}
+use Rattle.walks.proofs.Prelude.{fmOf, WpFn-mono, owns, uint-vals, uint-tells, u8, usize, RefT, MutSlice, ShrSlice, shr-slice-tells, sliceVal, slice-vals, mut-slice-tells, Room, place-is, plain, shrSliceOf, heard, nothing}
+use Rattle.walks.proofs.Prelude.{onEntry, Meets, tripleOf, Contract, Triple, calls-at, entered, cited, says, needs, Stays, stay-dropped, stay-slice, stay-none, walkOf, goes-none, goes-dropped, goes-slice, ends-at, walked, walk-meets, yes, scaled-fits}
+use Rattle.walks.proofs.Steps.{SharedAll, Upto, Nearer, nearer-wf, is-below, turn-fits, next-turn, is-nearer, localTy, goes-on, looks-element, shuts-element, lends-on, comes-home, after-call, frees-local, frees-room, with-usize, with-struct, result-unit}
 use Rattle.party.specs.declared.Record.{Record}
 use Rattle.party.specs.Record.{idle}
 use Rattle.party.proofs.Record as R

@@ -5,7 +5,7 @@ use denote.Ref.{now}
 use native.Mathlib.Omega.{arith}
 use Rattle.little.specs.Bytes.{numberAt}
 use Rattle.image.specs.Format.{recordPlace, maxAt, partiesAt, headerRefusal}
-use Rattle.image.proofs.Accepted.{accepted}
+use Rattle.image.proofs.Sizes.{header-sized}
 use Rattle.image.proofs.Gated.{refused-named, refused-by-header, refused-by-operation, refused-by-party, refused-by-spare, refused-by-none}
 use borrow.Author.Needs.{needs}
 use Rattle.image.proofs.gate.read_named.Statement.{statement}
@@ -102,7 +102,7 @@ add-number-8 c = search needs
 number-8-requires : tie.Need-number-8-requires
 number-8-requires c κs =
     let asked = c .before .before .before .before in
-    let image = accepted (image-of asked) (taken asked) in
+    let image = header-sized (image-of asked) (taken asked) in
     omega (arith, image .exact, max-is asked, parties-are asked, c .before .if3 .left)
 
 not-named-requires-4 : tie.Need-not-named-requires-4

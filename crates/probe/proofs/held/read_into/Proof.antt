@@ -17,15 +17,15 @@ use denote.Triple.Walked.{stay-dropped, goes-dropped, needs}
 use denote.Struct.Laws as LL
 use borrow.Table.Elements.{at, length-take-le, same-len}
 use borrow.Rule.Array.Share.{room-take}
-use Rattle.lent.proofs.Prelude.{_≡_, refl, sym, List, [], _∷_, URA, fullShare, named, w32, w64, Val, vint, SProp, ent, id⊢}
-use Rattle.lent.proofs.Prelude.{GName, Lft, Share, ftrue, flft, finally, Memory, Routine, Heap, Calls, Loops, WpFn, Tables, Atoms, Fun, givenOf, tables, tablesOf}
-use Rattle.lent.proofs.Prelude.{Given, ‵, raw, ⋆, _⊛_, _$_, _∵_, !, qed, by, move, keep, use1, split, join, fsplit, fjoin, feqL, suffices, frame, done}
-use Rattle.lent.proofs.Prelude.{look, init, stop, hop, fld, from, load, addr, of-opd, and-then, no-more, assigns, land, returns, enter, alloc1, alloc0, params1, pass1, pass0, free0, agg, whole, sub, look-in}
-use Rattle.lent.proofs.Prelude.{FmC, fmOf, WpFn-mono, owns, Is, uint-vals, uint-tells, u64, usize, RefT, MutSlice, sliceVal, slice-vals, mut-slice-tells, Room, plain, owned, nothing}
-use Rattle.lent.proofs.Prelude.{onEntry, Meets, tripleOf, Contract, Triple, calls-at, entered, cited, Stays, gave-slice, walkOf, goes-gave-slice, ends-at, walked, walk-meets, yes}
-use Rattle.lent.proofs.Steps.{after-call, frees-local, result-u32}
+use Rattle.walks.proofs.Prelude.{_≡_, refl, sym, List, [], _∷_, URA, fullShare, named, w32, w64, Val, vint, SProp, ent, id⊢}
+use Rattle.walks.proofs.Prelude.{GName, Lft, Share, ftrue, flft, finally, Memory, Routine, Heap, Calls, Loops, WpFn, Tables, Atoms, Fun, givenOf, tables, tablesOf}
+use Rattle.walks.proofs.Prelude.{Given, ‵, raw, ⋆, _⊛_, _$_, _∵_, !, qed, by, move, keep, use1, split, join, fsplit, fjoin, feqL, suffices, frame, done}
+use Rattle.walks.proofs.Prelude.{look, init, stop, hop, fld, from, load, addr, of-opd, and-then, no-more, assigns, land, returns, enter, alloc1, alloc0, params1, pass1, pass0, free0, agg, whole, sub, look-in}
+use Rattle.walks.proofs.Prelude.{FmC, fmOf, WpFn-mono, owns, Is, uint-vals, uint-tells, u64, usize, RefT, MutSlice, sliceVal, slice-vals, mut-slice-tells, Room, plain, owned, nothing}
+use Rattle.walks.proofs.Prelude.{onEntry, Meets, tripleOf, Contract, Triple, calls-at, entered, cited, Stays, gave-slice, walkOf, goes-gave-slice, ends-at, walked, walk-meets, yes}
+use Rattle.walks.proofs.Steps.{after-call, frees-local, result-u32}
 use Rattle.probe.proofs.Tables.{Table, machine, IsTable, length-is, fewer, room-17, table-typed}
-use Rattle.lent.proofs.Loans.{in-field, cuts-array, joins-array, lends-first, ends-loan}
+use Rattle.walks.proofs.Loans.{in-field, cuts-array, joins-array, lends-first, ends-loan}
 use Rattle.party.specs.declared.Record.{Record}
 use Rattle.party.proofs.Record as R
 use Rattle.party.proofs.Record.Laws as R′

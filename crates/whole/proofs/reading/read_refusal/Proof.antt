@@ -7,7 +7,7 @@ use denote.Ref.{now}
 use borrow.Author.Tests.{not-true, not-false}
 use native.Mathlib.Omega.{arith}
 use Rattle.image.specs.Format.{maxAt, partiesAt, headerRefusal}
-use Rattle.image.proofs.Accepted.{accepted}
+use Rattle.image.proofs.Sizes.{header-sized}
 use Rattle.whole.specs.Whole.{allBelow, lentFits, isSound, agrees}
 use Rattle.whole.proofs.Checked.{refused-by-lent, refused-by-header, refused-by-lengths, refused-by-records, refused-by-none}
 use borrow.Author.Needs.{needs}
@@ -93,7 +93,7 @@ returns-3 c =
 are-sound-requires : tie.Need-are-sound-requires
 are-sound-requires c κs =
     let past = c .before .before .before in
-    omega (arith, max-is past, parties-are past, accepted (image-of (read-in past)) (taken past) .exact)
+    omega (arith, max-is past, parties-are past, header-sized (image-of (read-in past)) (taken past) .exact)
 
 returns-4 : tie.Need-returns-4
 returns-4 c =

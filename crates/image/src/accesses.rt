@@ -1,0 +1,78 @@
+// An access made in the bytes of an image, and what follows it written in the record at a place.
+// Private to the crate, whose calls have checked the header: these ask that the bytes lie inside.
+use crate::memory::look_in;
+use crate::record::write_record;
+use little::put_8;
+use party::Answer;
+use party::Record;
+use party::make::at_stage;
+use party::make::begun_again;
+use party::make::idle_record;
+use step::AfterLook;
+use step::AfterSwap;
+use step::follow::looked;
+use word::counter;
+use word::raised;
+use word::value;
+ghost use mathlib.Core.Path.{_≡_};
+ghost use Prim.Native.Nat.{_+_, _≤_};
+ghost use lib.ListN.{length};
+ghost use Rattle.image.specs.Format.{wordPlace};
+ghost use Rattle.image.specs.Read.{LookMade, SwapMade};
+
+// A look, and what follows it. Step calls it, past its checks.
+pub fn make_look(
+    image: &mut [u8],
+    at: usize,
+    max: u16,
+    r: Record,
+    place: u32,
+    then: AfterLook,
+) -> Answer
+    requires { ⌜ (at + 32 ≤ length (now image)) × (wordPlace place + 8 ≤ length (now image)) ⌝ }
+    ensures { λ a. ⌜ LookMade (now (image .entry)) at max r place then a (now (image .exit)) ⌝ }
+{
+    let got = looked(max, r, then, look_in(image, place));
+    let answer = got.answer;
+    write_record(image, at, got.rec);
+    answer
+}
+
+// A swap that lost begins again; one that would win at the counter's end writes nothing; one that won writes word and record.
+// Step calls it, past its checks. What follows is written out here, not taken from step's `swapped`: the record then need not be
+// built before it is known.
+pub fn make_swap(
+    image: &mut [u8],
+    at: usize,
+    r: Record,
+    place: u32,
+    from: u64,
+    to: u32,
+    then: AfterSwap,
+) -> Answer
+    requires { ⌜ (at + 32 ≤ length (now image)) × (wordPlace place + 8 ≤ length (now image)) ⌝ }
+    ensures { λ a. ⌜ SwapMade (now (image .entry)) at r place from to then a (now (image .exit)) ⌝ }
+{
+    if look_in(image, place) != from {
+        write_record(image, at, begun_again(r));
+        return Answer::GoesOn;
+    }
+    if counter(from) == 4294967295 {
+        return Answer::Refused(9);
+    }
+    put_8(image, 8 + 8 * (place as usize), raised(from, to));
+    match then {
+        AfterSwap::Onward => {
+            write_record(image, at, at_stage(5, r));
+            Answer::GoesOn
+        }
+        AfterSwap::Push => {
+            write_record(image, at, idle_record());
+            Answer::Pushed
+        }
+        AfterSwap::Pop => {
+            write_record(image, at, idle_record());
+            Answer::Popped(value(r.first))
+        }
+    }
+}

@@ -1,0 +1,48 @@
+-- Every call keeps a sane state sane, and the strip and the table as long as they were.
+use Prim.Native.Nat.{ℕ}
+use mathlib.Core.Path.{_≡_, _∙_, ap, subst}
+use mathlib.Core.Bool.{true}
+use mathlib.Core.List.{List}
+use lib.ListN.{length, length-set}
+use native.Mathlib.Omega.{arith}
+use Rattle.party.specs.Record.{idle, begun}
+use Rattle.party.specs.declared.Record.{Record}
+use Rattle.party.specs.declared.Answer.{Answer}
+use Rattle.party.proofs.Kept.{begun-is-valid}
+use Rattle.step.specs.Step.{stripFits, maxOf}
+use Rattle.step.specs.Call.{Call, Fitting, callOf}
+use Rattle.invariant.specs.Invariant.{Sane}
+use Rattle.invariant.proofs.Moves.{early-sound, idle-sound}
+use Rattle.invariant.proofs.Sanity.{set-early-sane}
+use Rattle.invariant.proofs.Steps.{step-sane}
+use Rattle.invariant.proofs.Called.{Leaves, Called, called}
+
+module _ (strip : List ℕ) (table : List Record) (call : Call) where
+  pub table-stays-as-long : length (callOf strip table call .table) ≡ length table
+  table-stays-as-long = go (called strip table call)
+    where
+      go : Called strip table call → length (callOf strip table call .table) ≡ length table
+      go (Called.refuses number refusal left) = ap length (left .table-is)
+      go (Called.starts party operation order is known clear left) =
+          ap length (left .table-is) ∙ length-set table party (begun operation order)
+      go (Called.withdraws party is known left) = ap length (left .table-is) ∙ length-set table party idle
+      go (Called.steps party hint is known clear on left) = ap length (left .table-is) ∙ length-set table party _
+
+  -- what a call leaves is sane if what it went to is
+  leaves-sane : {answer : Answer} {words : List ℕ} {records : List Record} → Leaves strip table call answer words records
+      → Sane words records → Sane (callOf strip table call .strip) (callOf strip table call .table)
+  leaves-sane left done = rw (left .strip-is, left .table-is) done
+
+  pub sane-kept : stripFits (length strip) ≡ true → Fitting call → Sane strip table
+      → Sane (callOf strip table call .strip) (callOf strip table call .table)
+  sane-kept fits fitting sane = go (called strip table call)
+    where
+      go : Called strip table call → Sane (callOf strip table call .strip) (callOf strip table call .table)
+      go (Called.refuses number refusal left) = leaves-sane left sane
+      go (Called.starts party operation order is known clear left) =
+          let small = subst Fitting is fitting in
+          let valid = begun-is-valid (maxOf (length strip)) operation order (omega (arith, clear .known)) (clear .ordered) in
+          leaves-sane left
+          (set-early-sane sane party (early-sound strip (begun operation order) valid small (omega arith)) (omega arith))
+      go (Called.withdraws party is known left) = leaves-sane left (set-early-sane sane party (idle-sound strip) (omega arith))
+      go (Called.steps party hint is known clear on left) = leaves-sane left (step-sane strip table party hint fits known sane on)

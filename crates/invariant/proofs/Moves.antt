@@ -1,0 +1,116 @@
+-- The record that a step gives is sound on the strip as it was: what each way establishes for itself.
+use Prim.Native.Nat.{ℕ, _≤_, _<_}
+use mathlib.Core.Path.{_≡_, refl, sym, _∙_, ap}
+use mathlib.Core.Bool.{Bool, true, false, not, _||_, true≢false}
+use mathlib.Core.List.{List}
+use lib.ListN.{length}
+use lib.Dec.{eqb}
+use borrow.Author.Tests.{eqb-true, eqb-false, not-false, eq-eqb}
+use native.Mathlib.Omega.{arith}
+use Rattle.word.specs.Word.{valueOf}
+use Rattle.party.specs.Operation.{isPush}
+use Rattle.party.specs.Record.{idle, atStage, withSecond}
+use Rattle.party.specs.Valid.{validOf}
+use Rattle.party.specs.declared.Record.{Record}
+use Rattle.party.proofs.Kept.{idle-is-valid}
+use Rattle.step.specs.Stages.{own, far, atPlace}
+use Rattle.step.specs.Follow.{misled, popAtFar}
+use Rattle.step.specs.Step.{maxOf}
+use Rattle.invariant.specs.Invariant.{Remembered, FreshFirst, Sound}
+
+-- neither test of a disjunction holds where it does not
+neither : (a b : Bool) → a || b ≡ false → (a ≡ false) × (b ≡ false)
+neither true b e = absurd (true≢false e)
+neither false b e = (refl, e)
+
+module _ (strip : List ℕ) where
+  abbrev Valid : Record → Type 0
+  Valid r = validOf (maxOf (length strip)) r ≡ true
+
+  -- before stage 2 nothing is remembered
+  pub early-sound : (r : Record) → Valid r → r .v < 4294967296 → r .stage ≤ 1 → Sound strip r
+  early-sound r valid fits early =
+      record {
+        valid = valid;
+        order-fits = fits;
+        first-known = λ s. absurd (omega arith);
+        second-known = λ s. absurd (omega arith);
+        first-not-own = λ s. absurd (omega arith);
+        second-own = λ s. absurd (omega arith);
+        pop-not-far = λ s. absurd (omega arith);
+        push-behind = λ s. absurd (omega arith);
+        pop-ahead = λ s. absurd (omega arith);
+      }
+
+  pub idle-sound : Sound strip idle
+  idle-sound = early-sound idle (idle-is-valid (maxOf (length strip))) (omega arith) (omega arith)
+
+  -- the first word was read just now
+  pub second-stage-sound : (r : Record) → Valid r → r .v < 4294967296 → r .stage ≡ 2 → FreshFirst strip r → Sound strip r
+  second-stage-sound r valid fits at fresh =
+      record {
+        valid = valid;
+        order-fits = fits;
+        first-known = λ s. Remembered.fresh fresh;
+        second-known = λ s. absurd (omega arith);
+        first-not-own = λ s. absurd (omega arith);
+        second-own = λ s. absurd (omega arith);
+        pop-not-far = λ s. absurd (omega arith);
+        push-behind = λ s. absurd (omega arith);
+        pop-ahead = λ s. absurd (omega arith);
+      }
+
+  module _ (r : Record) (sound : Sound strip r) where
+    -- not misled: the first value is not own null, the second is
+    pub not-misled : (word : ℕ) → misled r word ≡ false → (valueOf (r .first) ≡ own r → ⊥) × (valueOf word ≡ own r)
+    not-misled word e =
+        let each = neither (eqb (valueOf (r .first)) (own r)) (not (eqb (valueOf word) (own r))) e in
+        (eqb-false (valueOf (r .first)) (own r) (each .0), eqb-true (valueOf word) (own r) (not-false _ (each .1)))
+
+    -- stage 2 passed its test: on to 3, or to 4 if the first value is not far null
+    pub judged-sound : (stage : ℕ) → r .stage ≡ 2 → misled r (atPlace strip r) ≡ false → 3 ≤ stage → stage ≤ 4
+        → (4 ≤ stage → popAtFar r ≡ false) → Valid (atStage stage (withSecond (atPlace strip r) r))
+        → Sound strip (atStage stage (withSecond (atPlace strip r) r))
+    judged-sound stage at right late early near valid =
+        record {
+          valid = valid;
+          order-fits = sound .order-fits;
+          first-known = λ s. sound .first-known (omega arith);
+          second-known = λ s. Remembered.fresh refl;
+          first-not-own = λ s. not-misled (atPlace strip r) right .0;
+          second-own = λ s. not-misled (atPlace strip r) right .1;
+          pop-not-far = λ s pop fresh is-far. true≢false (sym (rw (pop, eq-eqb (valueOf (r .first)) (far r) is-far) refl) ∙ near s);
+          push-behind = λ s. absurd (omega arith);
+          pop-ahead = λ s. absurd (omega arith);
+        }
+
+    -- stage 3 saw another word than its first
+    pub rechecked-sound : r .stage ≡ 3 → (FreshFirst strip r → ⊥) → Valid (atStage 4 r) → Sound strip (atStage 4 r)
+    rechecked-sound at unequal valid =
+        record {
+          valid = valid;
+          order-fits = sound .order-fits;
+          first-known = λ s. sound .first-known (omega arith);
+          second-known = λ s. sound .second-known (omega arith);
+          first-not-own = λ s. sound .first-not-own (omega arith);
+          second-own = λ s. sound .second-own (omega arith);
+          pop-not-far = λ s pop fresh. absurd (unequal fresh);
+          push-behind = λ s. absurd (omega arith);
+          pop-ahead = λ s. absurd (omega arith);
+        }
+
+    -- stage 4 met the word it remembered: a push its first, which is not own null; a pop its second, which is
+    pub won-sound : r .stage ≡ 4 → (isPush (r .operation) ≡ true → FreshFirst strip r)
+        → (isPush (r .operation) ≡ false → atPlace strip r ≡ r .second) → Valid (atStage 5 r) → Sound strip (atStage 5 r)
+    won-sound at pushed popped valid =
+        record {
+          valid = valid;
+          order-fits = sound .order-fits;
+          first-known = λ s. sound .first-known (omega arith);
+          second-known = λ s. sound .second-known (omega arith);
+          first-not-own = λ s. sound .first-not-own (omega arith);
+          second-own = λ s. sound .second-own (omega arith);
+          pop-not-far = λ s. sound .pop-not-far (omega arith);
+          push-behind = λ s push fresh is-own. sound .first-not-own (omega arith) (ap valueOf (sym (pushed push)) ∙ is-own);
+          pop-ahead = λ s pop fresh. ap valueOf (popped pop) ∙ sound .second-own (omega arith);
+        }

@@ -1,0 +1,29 @@
+-- What a record at stage 2 or 3 remembers of the plain strip at its last look, which FULL and EMPTY will name, and what a record's
+-- operation answers on a plain strip.
+use Prim.Native.Nat.{ℕ}
+use mathlib.Core.Path.{_≡_}
+use mathlib.Core.Bool.{true}
+use mathlib.Core.List.{List}
+use lib.ListN.{length}
+use Rattle.word.specs.Word.{valueOf}
+use Rattle.party.specs.Answer.{numberOf, carriedOf}
+use Rattle.party.specs.declared.Record.{Record}
+use Rattle.party.specs.declared.Answer.{Answer}
+use Rattle.step.specs.Stages.{own}
+use Rattle.step.specs.Follow.{pushAtWall}
+use Rattle.step.specs.Step.{maxOf}
+use Rattle.strip.specs.Plain.{Plain}
+use Rattle.invariant.specs.Play.{room, play}
+use Rattle.invariant.specs.Invariant.{FreshFirst}
+
+-- `then` is the plain strip at the record's last look in stage 1 or 2
+pub record Remembers (strip : List ℕ) (r : Record) (then : Plain) : Type 0 where
+  pub full-then : r .stage ≡ 2 → pushAtWall (maxOf (length strip)) r ≡ true → (valueOf (r .first) ≡ own r → ⊥)
+      → room (r .operation) then ≡ 0
+  pub empty-then : r .stage ≡ 3 → FreshFirst strip r → length (then .orders) ≡ 0
+
+-- the record's operation, played on the plain strip p, gives this answer and leaves q
+pub record Plays (r : Record) (p : Plain) (answer : Answer) (q : Plain) : Type 0 where
+  pub number : numberOf (play (r .operation) (r .v) p .answer) ≡ numberOf answer
+  pub carried : carriedOf (play (r .operation) (r .v) p .answer) ≡ carriedOf answer
+  pub plain : play (r .operation) (r .v) p .plain ≡ q
