@@ -17,20 +17,20 @@ use Rattle.step.specs.Call.{Call, partyOf}
 use Rattle.history.specs.Run.{State, lineOf, leaves}
 use Rattle.history.specs.Finished.{Asked, Finished, nothingYet, isResult, finish, finishedAt}
 use Rattle.history.specs.Explained.{Between, none}
-use Rattle.history.proofs.Lists.{every-one, every-both}
+use Rattle.logic.proofs.Lists.{every-one, every-append}
 use Rattle.history.proofs.Parties.{numberIn}
 use Rattle.history.proofs.Results.{Ended, looked-before, a-result-ends}
 use Rattle.history.proofs.Booked.{Booked, LastLook, last-look}
 
 -- no two share an effect
-abbrev pub Apart : List Finished → Type 0
-Apart done =
+abbrev pub Unshared : List Finished → Type 0
+Unshared done =
     (i j : ℕ) → i < j → j < length done → getD done i none .effect ≡ getD done j none .effect → ⊥
 
 -- one more that shares none
-apart-from : (done : List Finished) (f : Finished) → Apart done → Every (λ (g : Finished). g .effect ≡ f .effect → ⊥) none done
-    → Apart (done ++ (f ∷ []))
-apart-from done f apart other i j before within = go (ltb j (length done)) refl
+unshared-with : (done : List Finished) (f : Finished) → Unshared done → Every (λ (g : Finished). g .effect ≡ f .effect → ⊥) none done
+    → Unshared (done ++ (f ∷ []))
+unshared-with done f apart other i j before within = go (ltb j (length done)) refl
   where
     size : length (done ++ (f ∷ [])) ≡ suc (length done)
     size = rw (length-append done (f ∷ [])) (omega arith)
@@ -46,7 +46,7 @@ apart-from done f apart other i j before within = go (ltb j (length done)) refl
 
 pub record Claimed (n : ℕ) (s : State) (done : List Finished) : Type 0 where
   pub between : Every Between none done
-  pub apart : Apart done
+  pub apart : Unshared done
   pub answered : Every (λ (f : Finished). f .answered < n) none done
   pub looks-apart : (i j : ℕ) → (i ≡ j → ⊥) → 2 ≤ getD (s .table) i idle .stage → 2 ≤ getD (s .table) j idle .stage
       → getD (s .looks) i 0 ≡ getD (s .looks) j 0 → ⊥
@@ -147,14 +147,14 @@ module _ (n : ℕ) (s : State) (asked : List Asked) (booked : Booked n s asked) 
           let took = took-effect ended in
           let kept = claims-kept in
           record {
-            between = every-both Between none done _ (claimed .between) (every-one Between none _ (took-effect-between ended took));
-            apart = apart-from done line-finished (claimed .apart) (effect-unshared took);
+            between = every-append Between none done _ (claimed .between) (every-one Between none _ (took-effect-between ended took));
+            apart = unshared-with done line-finished (claimed .apart) (effect-unshared took);
             answered =
-                every-both (λ (f : Finished). f .answered < suc n) none done _ (kept .answered)
+                every-append (λ (f : Finished). f .answered < suc n) none done _ (kept .answered)
                 (every-one (λ (f : Finished). f .answered < suc n) none line-finished (omega arith));
             looks-apart = kept .looks-apart;
             looks-free = λ i on.
-                every-both (λ (f : Finished). f .effect ≡ looks-at i → ⊥) none done _ (kept .looks-free i on)
+                every-append (λ (f : Finished). f .effect ≡ looks-at i → ⊥) none done _ (kept .looks-free i on)
                 (every-one (λ (f : Finished). f .effect ≡ looks-at i → ⊥) none line-finished
                 (effect-no-look i (another i on) (last-look n s asked booked call i on) took));
           }

@@ -9,9 +9,10 @@ use lib.Seq.{getD-take}
 use borrow.Author.Tests.{le-leb}
 use native.Mathlib.Omega.{arith}
 use Rattle.logic.specs.Every.{Every}
+use Rattle.word.specs.Word.{IsWord}
 use Rattle.step.specs.Step.{stripFits}
 use Rattle.step.specs.Call.{Call, Fitting}
-use Rattle.strip.specs.Plain.{Plain, freshPlain}
+use Rattle.plain.specs.Plain.{Plain, freshPlain}
 use Rattle.strip.specs.Shape.{StandsFor, Shaped}
 use Rattle.strip.specs.Lay.{freshStrip}
 use Rattle.strip.specs.Measure.{measureOf}
@@ -20,12 +21,12 @@ use Rattle.strip.proofs.Laying.{fresh-length}
 use Rattle.strip.proofs.Values.{fresh-stands-for}
 use Rattle.strip.proofs.MeasureShapes.{measure-gives-the-plain-strip}
 use Rattle.invariant.proofs.Begin.{idle-is-sane}
-use Rattle.invariant.proofs.Writes.{IsWord}
-use Rattle.placing.specs.Placing.{total}
+use Rattle.logic.specs.Total.{total}
 use Rattle.history.specs.Run.{begin, linesFrom, endFrom, noCall}
 use Rattle.history.specs.Finished.{Finished, finishedOf}
 use Rattle.history.specs.Explained.{Explained}
-use Rattle.history.specs.Accounts.{held, accepted, taken}
+use Rattle.plain.specs.Accounts.{held}
+use Rattle.history.specs.Accounts.{accepted, taken}
 use Rattle.history.proofs.Explaining.{machine-explains}
 use Rattle.history.proofs.Keeping.{Keeps, the-strip-keeps-going}
 use Rattle.history.proofs.Counters.{the-strip-stays-as-long, no-counter-ever-comes-round}

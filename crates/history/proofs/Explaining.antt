@@ -13,13 +13,13 @@ use Rattle.logic.proofs.Bools.{both}
 use Rattle.party.specs.Record.{idle}
 use Rattle.step.specs.Step.{stripFits}
 use Rattle.step.specs.Call.{Call, Fitting}
-use Rattle.strip.specs.Plain.{Plain}
+use Rattle.plain.specs.Plain.{Plain}
 use Rattle.strip.specs.Shape.{StandsFor}
 use Rattle.placing.specs.Placing.{gathered, Adds}
 use Rattle.placing.proofs.Explains.{all-that-was-added-plays}
 use Rattle.history.specs.Run.{State, begin, leaves, linesFrom, endFrom, noCall}
 use Rattle.history.specs.Finished.{Asked, Finished, nothingYet, finishedOf}
-use Rattle.history.specs.Explained.{Gives, Explained}
+use Rattle.history.specs.Explained.{Agrees, Explained}
 use Rattle.history.proofs.Booked.{Booked, booked-first, booked-next, LastLook, last-look}
 use Rattle.history.proofs.Claimed.{Claimed, claimed-next}
 use Rattle.history.proofs.Entries.{callIn, stateAt, askedAt, addedAt, run-ends-at, run-finishes}
@@ -101,7 +101,7 @@ module _ (Inv : State → Plain → (ℕ → Plain) → Type 0) (machine : Machi
   abbrev added : ℕ → List Finished
   added = addedAt (begin strip parties) call (replicate parties nothingYet)
 
-  entry-adds : (n : ℕ) → Adds (λ (f : Finished). f .effect) Gives plainAt n (added n)
+  entry-adds : (n : ℕ) → Adds (λ (f : Finished). f .effect) Agrees plainAt n (added n)
   entry-adds n =
       adds plainAt n (at n) (askedAt (begin strip parties) call (replicate parties nothingYet) n) (booked-at strip parties call n) (call n)
       (known n .1) (remembers-at n) (says-at n)
@@ -117,7 +117,7 @@ module _ (Inv : State → Plain → (ℕ → Plain) → Type 0) (machine : Machi
         answered = claimed .answered;
         between = claimed .between;
         apart = claimed .apart;
-        played = all-that-was-added-plays (λ (f : Finished). f .effect) Gives plainAt added n (λ m within. entry-adds m);
+        played = all-that-was-added-plays (λ (f : Finished). f .effect) Agrees plainAt added n (λ m within. entry-adds m);
       }
 
 -- every call of a list fits, and so does the one past its end

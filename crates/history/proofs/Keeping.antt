@@ -10,18 +10,19 @@ use Rattle.logic.proofs.Bools.{both}
 use Rattle.party.specs.Record.{idle}
 use Rattle.step.specs.Step.{stripFits}
 use Rattle.step.specs.Call.{Call, Fitting, partyOf, callOf}
-use Rattle.strip.specs.Plain.{Plain}
+use Rattle.step.proofs.Calls.{table-stays-as-long}
+use Rattle.plain.specs.Plain.{Plain}
 use Rattle.strip.specs.Shape.{StandsFor}
 use Rattle.invariant.specs.Invariant.{Sane}
 use Rattle.invariant.specs.Remembered.{Remembers}
 use Rattle.invariant.proofs.Begin.{idle-is-sane}
-use Rattle.invariant.proofs.Kept.{sane-kept, table-stays-as-long}
+use Rattle.invariant.proofs.Kept.{sane-kept}
 use Rattle.invariant.proofs.Writes.{strip-stays-as-long}
-use Rattle.invariant.proofs.Does.{Does, does}
+use Rattle.invariant.proofs.CallEffects.{CallEffect, call-effect}
 use Rattle.invariant.proofs.Looks.{idle-remembers}
 use Rattle.invariant.proofs.Remembers.{look-remembers, remembers-kept}
 use Rattle.history.specs.Run.{State, leaves, looked}
-use Rattle.history.proofs.Lists.{all-the-same}
+use Rattle.logic.proofs.Lists.{all-the-same}
 use Rattle.history.proofs.Parties.{numberIn, looksNow, look-is-a-step, step-looks-now}
 use Rattle.history.proofs.Machine.{Says, thensAfter, Goes, Machine}
 
@@ -62,22 +63,22 @@ module _ (s : State) (p : Plain) (thens : ℕ → Plain) (keeps : Keeps s p then
       }
 
   pub keeps-going : Goes Keeps s p thens call
-  keeps-going = go (does (s .strip) (s .table) call p (keeps .fits) (keeps .sane) (keeps .stands))
+  keeps-going = go (call-effect (s .strip) (s .table) call p (keeps .fits) (keeps .sane) (keeps .stands))
     where
-      go : Does (s .strip) (s .table) call p → Goes Keeps s p thens call
-      go (Does.quiet small stands) =
+      go : CallEffect (s .strip) (s .table) call p → Goes Keeps s p thens call
+      go (CallEffect.quiet small stands) =
           record {
             next = p;
             says = Says.quiet (rw (lt-leb 16 (numberIn s call) small) refl) refl;
             kept = λ entry. keeps-after p entry stands;
           }
-      go (Does.acts party hint is known which q plays stands) =
+      go (CallEffect.acts party hint is known which q plays stands) =
           record {
             next = q;
             says = Says.acts which (rw (ap partyOf is) plays);
             kept = λ entry. keeps-after q entry stands;
           }
-      go (Does.recalls party hint is known which same plays) =
+      go (CallEffect.recalls party hint is known which same plays) =
           record {
             next = p;
             says = Says.recalls which refl (rw (ap partyOf is) (plays (thens party) (keeps .remembers party known)));

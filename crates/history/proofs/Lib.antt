@@ -1,18 +1,22 @@
-pub mod Lists
+-- What one entry does to each party: its record, what it was last asked, its last look
 pub mod Stepped
 pub mod Parties
 pub mod Results
+-- A run entry by entry, with what is booked of each party and claimed by each effect
 pub mod Entries
 pub mod Booked
 pub mod Claimed
+-- Demand 3 over a machine: what is asked of it, and that it then explains every schedule
 pub mod Machine
 pub mod Tracing
 pub mod Explaining
-pub mod Answers
-pub mod Accounts
-pub mod Effects
+-- The strip is such a machine
 pub mod Keeping
 pub mod Counters
+-- What follows from an explanation: accounts, and what an answer tells of its effect
+pub mod Accounts
+pub mod Effects
+-- Demand 3, and where FULL and EMPTY took effect
 pub mod EverySchedule
 pub mod Since
 pub mod LastRead

@@ -9,9 +9,9 @@ use lib.ListN.{length}
 use Rattle.logic.specs.Pick.{pick}
 use Rattle.step.specs.Step.{stripFits}
 use Rattle.step.specs.Call.{Call, Fitting, partyOf, recordOf, callOf}
-use Rattle.strip.specs.Plain.{Plain}
+use Rattle.plain.specs.Plain.{Plain}
 use Rattle.strip.specs.Shape.{StandsFor}
-use Rattle.invariant.specs.Remembered.{Plays}
+use Rattle.invariant.specs.Remembered.{RecordYields}
 use Rattle.history.specs.Run.{State, begin, leaves}
 use Rattle.history.specs.Finished.{isResult}
 use Rattle.history.proofs.Parties.{numberIn, looksNow}
@@ -21,9 +21,9 @@ use Rattle.history.proofs.Parties.{numberIn, looksNow}
 pub data Says (s : State) (p : Plain) (thens : ℕ → Plain) (call : Call) (next : Plain) : Type 0 where
   quiet : isResult (numberIn s call) ≡ false → next ≡ p → Says s p thens call next
   acts : (numberIn s call ≡ 16) ⊎ (numberIn s call ≡ 17)
-      → Plays (recordOf (s .table) call) p (callOf (s .strip) (s .table) call .answer) next → Says s p thens call next
+      → RecordYields (recordOf (s .table) call) p (callOf (s .strip) (s .table) call .answer) next → Says s p thens call next
   recalls : (numberIn s call ≡ 18) ⊎ (numberIn s call ≡ 19) → next ≡ p
-      → Plays (recordOf (s .table) call) (thens (partyOf call)) (callOf (s .strip) (s .table) call .answer) (thens (partyOf call))
+      → RecordYields (recordOf (s .table) call) (thens (partyOf call)) (callOf (s .strip) (s .table) call .answer) (thens (partyOf call))
       → Says s p thens call next
 
 -- a party that looks now remembers the plain strip of now

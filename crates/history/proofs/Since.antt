@@ -16,7 +16,7 @@ use Rattle.party.specs.declared.Answered.{Answered}
 use Rattle.step.specs.Step.{stepOf, stepLeaves}
 use Rattle.step.specs.Call.{Call, partyOf}
 use Rattle.step.proofs.Went.{GoneOn}
-use Rattle.invariant.proofs.Called.{Leaves, Called, called}
+use Rattle.step.proofs.Called.{Leaves, Called, called}
 use Rattle.history.specs.Run.{State, leaves}
 use Rattle.history.proofs.Stepped.{Stepped, stepped}
 use Rattle.history.proofs.Parties.{numberIn, looksNow, step-looks-now, record-elsewhere}

@@ -31,4 +31,4 @@ stepped strip r hint (GoneOn.push-4 s p t gone) = rw (gone .answered) (going-on 
 stepped strip r hint (GoneOn.pop-4 s p t gone) = rw (gone .answered) (going-on refl refl refl (λ to. omega arith) (λ to. omega arith))
 stepped strip r hint (GoneOn.push-5 s p t gone) = rw (gone .answered) (acting (inl refl) refl)
 stepped strip r hint (GoneOn.pop-5 s p t gone) = rw (gone .answered) (acting (inr refl) refl)
-stepped strip r hint (GoneOn.loses gone) = rw (gone .answered) (going-on refl refl refl (λ to. omega arith) (λ to. omega arith))
+stepped strip r hint (GoneOn.loses place from to then access other gone) = rw (gone .answered) (going-on refl refl refl (λ to. omega arith) (λ to. omega arith))

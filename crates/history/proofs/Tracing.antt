@@ -10,12 +10,12 @@ use native.Mathlib.Omega.{arith}
 use Rattle.logic.specs.Pick.{pick}
 use Rattle.party.specs.Record.{idle}
 use Rattle.step.specs.Call.{Call, partyOf, callOf, recordOf}
-use Rattle.strip.specs.Plain.{Plain}
-use Rattle.invariant.specs.Remembered.{Plays}
+use Rattle.plain.specs.Plain.{Plain}
+use Rattle.invariant.specs.Remembered.{RecordYields}
 use Rattle.placing.specs.Placing.{Adds}
 use Rattle.history.specs.Run.{State, lineOf, looked}
 use Rattle.history.specs.Finished.{Asked, Finished, nothingYet, isResult, finish, finishedAt}
-use Rattle.history.specs.Explained.{Gives}
+use Rattle.history.specs.Explained.{Agrees}
 use Rattle.history.proofs.Parties.{numberIn, look-is-a-step}
 use Rattle.history.proofs.Results.{looked-before, a-result-ends}
 use Rattle.history.proofs.Booked.{Booked, Asks}
@@ -32,11 +32,11 @@ look-is-quiet s p thens call next looks (Says.recalls number same plays) = same
 -- what the record's operation gives, the finished operation gives: it was asked the same
 gives-as-asked : (n : ℕ) (s : State) (asked : List Asked) (call : Call) (p q : Plain)
     → Asks n (getD asked (partyOf call) nothingYet) (recordOf (s .table) call)
-    → Plays (recordOf (s .table) call) p (callOf (s .strip) (s .table) call .answer) q
-    → Gives (finish (getD asked (partyOf call) nothingYet) n (lineOf s n call)) p q
+    → RecordYields (recordOf (s .table) call) p (callOf (s .strip) (s .table) call .answer) q
+    → Agrees (finish (getD asked (partyOf call) nothingYet) n (lineOf s n call)) p q
 unfolding lineOf
 gives-as-asked n s asked call p q asks plays =
-    rw (asks .operation, asks .order) (record { number = plays .number; carried = plays .carried; plain = plays .plain })
+    rw (asks .operation, asks .order) plays
 
 act-is : (number : ℕ) → (number ≡ 16) ⊎ (number ≡ 17) → (isResult number ≡ true) × ((eqb number 18 || eqb number 19) ≡ false)
 act-is number (inl e) = rw e (refl, refl)
@@ -54,7 +54,7 @@ module _ (trace : ℕ → Plain) (n : ℕ) (s : State) (asked : List Asked) (boo
 
   pub adds : ((i : ℕ) → 2 ≤ getD (s .table) i idle .stage → thens i ≡ trace (suc (getD (s .looks) i 0)))
       → Says s (trace n) thens call (trace (suc n))
-      → Adds (λ (f : Finished). f .effect) Gives trace n (finishedAt asked n call (lineOf s n call))
+      → Adds (λ (f : Finished). f .effect) Agrees trace n (finishedAt asked n call (lineOf s n call))
   unfolding lineOf
   adds remembered (Says.quiet other same) = Adds.nothing (ap (λ (t : Bool). pick t (finishes ∷ []) []) other) same
   adds remembered (Says.acts number plays) =

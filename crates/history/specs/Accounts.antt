@@ -1,24 +1,12 @@
--- How often an order is held, was accepted and was taken.
+-- How often an order was accepted and was taken. How often it is held stands with the plain strip.
 use Prim.Native.Nat.{ℕ}
-use mathlib.Core.Bool.{Bool, _&&_}
 use mathlib.Core.List.{List}
-use lib.Dec.{eqb}
-use Rattle.logic.specs.Pick.{pick}
-use Rattle.strip.specs.Plain.{Plain}
-use Rattle.placing.specs.Placing.{total}
+use Rattle.logic.specs.Total.{total}
+use Rattle.plain.specs.Accounts.{accepts, takes}
 use Rattle.history.specs.Finished.{Finished}
 
--- once where the test holds
-abbrev pub once : Bool → ℕ
-once test = pick test 1 0
-
-abbrev pub held : (order : ℕ) → Plain → ℕ
-held order p = total (λ (o : ℕ). once (eqb o order)) (p .orders)
-
--- PUSHED with this order
 abbrev pub accepted : (order : ℕ) → List Finished → ℕ
-accepted order finished = total (λ (f : Finished). once (eqb (f .number) 16 && eqb (f .order) order)) finished
+accepted order finished = total (λ (f : Finished). accepts order (f .order) (f .number)) finished
 
--- POPPED that carried this order
 abbrev pub taken : (order : ℕ) → List Finished → ℕ
-taken order finished = total (λ (f : Finished). once (eqb (f .number) 17 && eqb (f .carried) order)) finished
+taken order finished = total (λ (f : Finished). takes order (f .number) (f .carried)) finished

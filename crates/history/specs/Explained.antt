@@ -3,17 +3,14 @@ use Prim.Native.Nat.{ℕ, _<_, _≤_}
 use mathlib.Core.Path.{_≡_}
 use mathlib.Core.List.{List}
 use lib.ListN.{length, getD}
-use Rattle.party.specs.Answer.{numberOf, carriedOf}
-use Rattle.strip.specs.Plain.{Plain}
-use Rattle.invariant.specs.Play.{play}
+use Rattle.plain.specs.Plain.{Plain}
+use Rattle.plain.specs.Play.{Yields}
 use Rattle.placing.specs.Placing.{inOrder, Plays}
 use Rattle.history.specs.Finished.{Finished}
 
 -- f, played on the plain strip p, gives f's number and carried order and leaves q
-pub record Gives (f : Finished) (p q : Plain) : Type 0 where
-  pub number : numberOf (play (f .operation) (f .order) p .answer) ≡ f .number
-  pub carried : carriedOf (play (f .operation) (f .order) p .answer) ≡ f .carried
-  pub plain : play (f .operation) (f .order) p .plain ≡ q
+abbrev pub Agrees : Finished → Plain → Plain → Type 0
+Agrees f p q = Yields (f .operation) (f .order) p (f .number) (f .carried) q
 
 -- the effect lies between the operation's start and its answer
 pub record Between (f : Finished) : Type 0 where
@@ -29,4 +26,4 @@ pub record Explained (first : Plain) (finished : List Finished) (entries : ℕ) 
   pub answered : (i : ℕ) → i < length finished → getD finished i none .answered < entries
   pub between : (i : ℕ) → i < length finished → Between (getD finished i none)
   pub apart : (i j : ℕ) → i < j → j < length finished → getD finished i none .effect ≡ getD finished j none .effect → ⊥
-  pub played : Plays Gives first (inOrder (λ (f : Finished). f .effect) entries finished) last
+  pub played : Plays Agrees first (inOrder (λ (f : Finished). f .effect) entries finished) last

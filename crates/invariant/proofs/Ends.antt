@@ -7,16 +7,16 @@ use lib.ListN.{length, getD, List·getD-map}
 use borrow.Author.Tests.{eqb-true, eqb-false, eq-eqb, ne-eqb}
 use native.Mathlib.Omega.{arith}
 use Rattle.logic.specs.Pick.{pick}
-use Rattle.word.specs.Word.{valueOf}
+use Rattle.word.specs.Word.{valueOf, valueAt}
 use Rattle.party.specs.Operation.{isRight, wall}
 use Rattle.party.specs.Valid.{placeFits, atWall}
 use Rattle.party.specs.declared.Record.{Record}
 use Rattle.step.specs.Stages.{near, own, far}
 use Rattle.step.specs.Step.{stripFits, maxOf}
 use Rattle.step.proofs.Cleared.{strip-within}
-use Rattle.strip.specs.Plain.{Plain}
-use Rattle.invariant.specs.Play.{room, endOrder}
-use Rattle.strip.specs.Shape.{StandsFor, valueAt, Bounds}
+use Rattle.plain.specs.Plain.{Plain}
+use Rattle.plain.specs.Play.{room, endOrder}
+use Rattle.strip.specs.Shape.{StandsFor, Bounds}
 use Rattle.strip.specs.Find.{isEnd}
 use Rattle.strip.proofs.Shapes.{strip-length, stands-for-bounds, past-left, before-right}
 use Rattle.strip.proofs.Values.{values-between}

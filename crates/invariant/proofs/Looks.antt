@@ -8,7 +8,7 @@ use lib.ListN.{length}
 use borrow.Author.Tests.{eqb-true}
 use native.Mathlib.Omega.{arith}
 use Rattle.logic.proofs.Bools.{both}
-use Rattle.word.specs.Word.{valueOf}
+use Rattle.word.specs.Word.{valueOf, valueAt}
 use Rattle.party.specs.Operation.{isPush, wall}
 use Rattle.party.specs.Record.{idle}
 use Rattle.party.specs.Valid.{placeFits, atWall}
@@ -16,17 +16,16 @@ use Rattle.party.specs.Answer.{goingOn}
 use Rattle.party.specs.declared.Record.{Record}
 use Rattle.party.specs.declared.Answered.{Answered}
 use Rattle.party.specs.declared.Answer.the-variants.{GoesOn}
-use Rattle.step.specs.Stages.{near, own, far, atPlace}
+use Rattle.step.specs.Stages.{near, own, far}
 use Rattle.step.specs.Step.{stripFits, maxOf, stepOf, stepLeaves}
 use Rattle.step.proofs.Cleared.{Steppable}
 use Rattle.step.proofs.Went.{Gone, GoneOn}
-use Rattle.strip.specs.Plain.{Plain}
-use Rattle.strip.specs.Shape.{StandsFor, valueAt}
+use Rattle.plain.specs.Plain.{Plain}
+use Rattle.strip.specs.Shape.{StandsFor}
 use Rattle.strip.proofs.Shapes.{stands-for-bounds, strip-length}
 use Rattle.invariant.specs.Invariant.{FreshFirst, Sound}
 use Rattle.invariant.specs.Remembered.{Remembers}
 use Rattle.invariant.proofs.Sides.{Side, side, place-fits}
-use Rattle.invariant.proofs.Moves.{not-misled}
 use Rattle.invariant.proofs.Ends.{at-the-end, full-at-wall, empty-at-far}
 
 -- at other stages than 2 and 3 there is nothing to remember
@@ -109,9 +108,8 @@ module _ (strip : List ℕ) (r : Record) (hint : ℕ) (p : Plain) (fits : stripF
   step-looks clear (GoneOn.fills s d w gone) = forgotten gone (omega arith)
   step-looks clear (GoneOn.doubts s d f gone) =
       let in-range = place-fits (maxOf (length strip)) r (sound .valid) (omega arith) in
-      let seen = not-misled strip r sound (atPlace strip r) d in
       let is-far = eqb-true (valueOf (r .first)) (far r) (both (not (isPush (r .operation))) _ f .1) in
-      looked (inr s) gone (look-2-remembers strip p fits stands _ refl in-range (seen .1) (seen .0) is-far)
+      looked (inr s) gone (look-2-remembers strip p fits stands _ refl in-range (d .second-own) (d .first-other) is-far)
   step-looks clear (GoneOn.readies s d w f gone) = forgotten gone (omega arith)
   step-looks clear (GoneOn.empties s e gone) = forgotten gone (omega arith)
   step-looks clear (GoneOn.rechecks s e gone) = forgotten gone (omega arith)
@@ -119,4 +117,4 @@ module _ (strip : List ℕ) (r : Record) (hint : ℕ) (p : Plain) (fits : stripF
   step-looks clear (GoneOn.pop-4 s q t gone) = forgotten gone (omega arith)
   step-looks clear (GoneOn.push-5 s q t gone) = forgotten gone (omega arith)
   step-looks clear (GoneOn.pop-5 s q t gone) = forgotten gone (omega arith)
-  step-looks clear (GoneOn.loses gone) = forgotten gone (omega arith)
+  step-looks clear (GoneOn.loses place from to then access other gone) = forgotten gone (omega arith)

@@ -1,27 +1,23 @@
 -- The record that a step gives is sound on the strip as it was: what each way establishes for itself.
 use Prim.Native.Nat.{ℕ, _≤_, _<_}
 use mathlib.Core.Path.{_≡_, refl, sym, _∙_, ap}
-use mathlib.Core.Bool.{Bool, true, false, not, _||_, true≢false}
+use mathlib.Core.Bool.{true, false, true≢false}
 use mathlib.Core.List.{List}
 use lib.ListN.{length}
-use lib.Dec.{eqb}
-use borrow.Author.Tests.{eqb-true, eqb-false, not-false, eq-eqb}
+use borrow.Author.Tests.{eq-eqb}
 use native.Mathlib.Omega.{arith}
 use Rattle.word.specs.Word.{valueOf}
+use Rattle.swaps.specs.Remembered.{Remembered}
 use Rattle.party.specs.Operation.{isPush}
 use Rattle.party.specs.Record.{idle, atStage, withSecond}
 use Rattle.party.specs.Valid.{validOf}
 use Rattle.party.specs.declared.Record.{Record}
 use Rattle.party.proofs.Kept.{idle-is-valid}
-use Rattle.step.specs.Stages.{own, far, atPlace}
-use Rattle.step.specs.Follow.{misled, popAtFar}
+use Rattle.step.specs.Stages.{far, atPlace}
+use Rattle.step.specs.Follow.{popAtFar}
 use Rattle.step.specs.Step.{maxOf}
-use Rattle.invariant.specs.Invariant.{Remembered, FreshFirst, Sound}
-
--- neither test of a disjunction holds where it does not
-neither : (a b : Bool) → a || b ≡ false → (a ≡ false) × (b ≡ false)
-neither true b e = absurd (true≢false e)
-neither false b e = (refl, e)
+use Rattle.step.proofs.Went.{NotMisled}
+use Rattle.invariant.specs.Invariant.{FreshFirst, Sound}
 
 module _ (strip : List ℕ) where
   abbrev Valid : Record → Type 0
@@ -61,14 +57,8 @@ module _ (strip : List ℕ) where
       }
 
   module _ (r : Record) (sound : Sound strip r) where
-    -- not misled: the first value is not own null, the second is
-    pub not-misled : (word : ℕ) → misled r word ≡ false → (valueOf (r .first) ≡ own r → ⊥) × (valueOf word ≡ own r)
-    not-misled word e =
-        let each = neither (eqb (valueOf (r .first)) (own r)) (not (eqb (valueOf word) (own r))) e in
-        (eqb-false (valueOf (r .first)) (own r) (each .0), eqb-true (valueOf word) (own r) (not-false _ (each .1)))
-
     -- stage 2 passed its test: on to 3, or to 4 if the first value is not far null
-    pub judged-sound : (stage : ℕ) → r .stage ≡ 2 → misled r (atPlace strip r) ≡ false → 3 ≤ stage → stage ≤ 4
+    pub judged-sound : (stage : ℕ) → r .stage ≡ 2 → NotMisled strip r → 3 ≤ stage → stage ≤ 4
         → (4 ≤ stage → popAtFar r ≡ false) → Valid (atStage stage (withSecond (atPlace strip r) r))
         → Sound strip (atStage stage (withSecond (atPlace strip r) r))
     judged-sound stage at right late early near valid =
@@ -77,8 +67,8 @@ module _ (strip : List ℕ) where
           order-fits = sound .order-fits;
           first-known = λ s. sound .first-known (omega arith);
           second-known = λ s. Remembered.fresh refl;
-          first-not-own = λ s. not-misled (atPlace strip r) right .0;
-          second-own = λ s. not-misled (atPlace strip r) right .1;
+          first-not-own = λ s. right .first-other;
+          second-own = λ s. right .second-own;
           pop-not-far = λ s pop fresh is-far. true≢false (sym (rw (pop, eq-eqb (valueOf (r .first)) (far r) is-far) refl) ∙ near s);
           push-behind = λ s. absurd (omega arith);
           pop-ahead = λ s. absurd (omega arith);

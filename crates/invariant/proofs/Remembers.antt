@@ -18,13 +18,13 @@ use Rattle.step.specs.Stages.{near}
 use Rattle.step.specs.Follow.{pushAtWall}
 use Rattle.step.specs.Step.{stripFits, maxOf, stepOf, stepLeaves}
 use Rattle.step.specs.Call.{Call, partyOf, callOf}
-use Rattle.strip.specs.Plain.{Plain}
+use Rattle.plain.specs.Plain.{Plain}
 use Rattle.strip.specs.Shape.{StandsFor}
 use Rattle.invariant.specs.Invariant.{Sound, Sane}
 use Rattle.invariant.specs.Remembered.{Remembers}
-use Rattle.invariant.proofs.Stale.{fresh-elsewhere}
+use Rattle.swaps.proofs.Stale.{fresh-elsewhere}
 use Rattle.invariant.proofs.Writes.{Written, step-writes}
-use Rattle.invariant.proofs.Called.{Leaves, Called, called}
+use Rattle.step.proofs.Called.{Leaves, Called, called}
 use Rattle.invariant.proofs.Looks.{remembers-nothing, idle-remembers, StepLooks, step-looks}
 
 -- what others write leaves it true: a first word that is fresh was fresh before

@@ -1,13 +1,16 @@
 -- The two sides of two records, and the places of a valid record.
 use Prim.Native.Nat.{ℕ, _+_, _-_, _≤_, _<_}
-use mathlib.Core.Path.{_≡_, refl, sym, _∙_}
+use mathlib.Core.Path.{_≡_, refl, sym, _∙_, ap₂}
 use mathlib.Core.Bool.{Bool, true, false}
 use mathlib.Core.List.{List}
 use lib.ListN.{length}
 use lib.Dec.{leb, ltb}
 use borrow.Author.Tests.{leb-true, ne-eqb}
 use native.Mathlib.Omega.{arith}
+use Rattle.logic.specs.Pick.{pick}
 use Rattle.logic.proofs.Bools.{both}
+use Rattle.word.proofs.Laws.{Took}
+use Rattle.swaps.proofs.Stale.{Wins}
 use Rattle.party.specs.Operation.{isRight, isPush, orderFits}
 use Rattle.party.specs.Valid.{validOf, placeFits}
 use Rattle.party.specs.declared.Record.{Record}
@@ -15,8 +18,6 @@ use Rattle.party.proofs.Stages.{ValidAt, valid-at, busy-fits}
 use Rattle.step.specs.Stages.{near, own, far, atPlace, atNear}
 use Rattle.step.specs.Step.{stripFits, maxOf}
 use Rattle.step.proofs.Cleared.{strip-within}
-use Rattle.step.proofs.Went.{Took}
-use Rattle.invariant.proofs.Stale.{Wins}
 
 -- one record's side, in numbers
 pub data Side (r : Record) : Type 0 where
@@ -103,6 +104,10 @@ one-place (Placed.right e o f n i) (Placed.right e′ o′ f′ n′ i′) h m =
 one-place (Placed.right e o f n i) (Placed.left e′ o′ f′ n′ i′) h m = absurd (omega arith)
 one-place (Placed.left e o f n i) (Placed.right e′ o′ f′ n′ i′) h m = absurd (omega arith)
 one-place (Placed.left e o f n i) (Placed.left e′ o′ f′ n′ i′) h m = omega arith
+
+-- and two of one side at one place have one neighbour
+pub one-neighbour : (a b : Record) → isRight (a .operation) ≡ isRight (b .operation) → a .k ≡ b .k → near a ≡ near b
+one-neighbour a b = ap₂ (λ (right : Bool) (k : ℕ). pick right (k - 1) (k + 1))
 
 -- a swap at k or at the neighbour of such a record is inside the strip
 pub wins-at-place : {strip : List ℕ} {r : Record} → Placed (length strip) r → Took (atPlace strip r) (r .second)

@@ -59,4 +59,4 @@ module _ (strip : List ℕ) (table : List Record) (party hint : ℕ) (fits : str
   step-sane (GoneOn.pop-4 s p t gone) = gone-sane gone (pop-4-sane strip table party fits known sane s p t (gone-valid gone))
   step-sane (GoneOn.push-5 s p t gone) = gone-sane gone (push-5-sane strip table party fits known sane s p t)
   step-sane (GoneOn.pop-5 s p t gone) = gone-sane gone (pop-5-sane strip table party fits known sane s p t)
-  step-sane (GoneOn.loses gone) = quiet gone (again-sound (gone-valid gone)) (omega arith)
+  step-sane (GoneOn.loses place from to then access other gone) = quiet gone (again-sound (gone-valid gone)) (omega arith)

@@ -7,7 +7,8 @@ use lib.Seq.{set-at, take-suc, take-all, drop-cons}
 use native.Mathlib.Numerals.{add-one}
 use native.Mathlib.Omega.{arith}
 use Rattle.word.specs.Word.{LN, RN}
-use Rattle.strip.specs.Plain.{Plain, valuesOf}
+use Rattle.plain.specs.Plain.{Plain}
+use Rattle.strip.specs.Shape.{valuesOf}
 
 -- nulls, one more at the back
 more : (n null : ℕ) → replicate (n + 1) null ≡ replicate n null ++ (null ∷ [])

@@ -6,7 +6,8 @@ use lib.ListN.{length, getD, set, length-set}
 use native.Mathlib.Omega.{arith}
 use Rattle.logic.specs.Every.{Every}
 use Rattle.logic.proofs.Lists.{every-set}
-use Rattle.word.specs.Word.{valueOf, counterOf, raisedTo}
+use Rattle.word.specs.Word.{IsWord, valueOf, counterOf, raisedTo}
+use Rattle.word.proofs.Laws.{raised-is-word}
 use Rattle.party.specs.Record.{idle}
 use Rattle.party.specs.declared.Record.{Record}
 use Rattle.step.specs.Stages.{own}
@@ -15,9 +16,9 @@ use Rattle.step.specs.Call.{Call, recordOf, callOf}
 use Rattle.step.proofs.Cleared.{Steppable}
 use Rattle.step.proofs.Went.{GoneOn}
 use Rattle.invariant.specs.Invariant.{Sane}
-use Rattle.invariant.proofs.Stale.{Wins, counter-kept}
+use Rattle.swaps.proofs.Stale.{Wins, counter-kept}
 use Rattle.invariant.proofs.Sides.{own-is-null, Placed, placed, wins-at-place, wins-at-near}
-use Rattle.invariant.proofs.Called.{Called, called}
+use Rattle.step.proofs.Called.{Called, called}
 
 -- the value written fits a word if the record's order does
 pub data Written (strip : List ℕ) (order : ℕ) (left : List ℕ) : Type 0 where
@@ -44,11 +45,7 @@ step-writes strip r hint clear = go
     go (GoneOn.pop-4 s p t gone) = Written.one (own r) (wins-at-place (at (omega arith)) t) (λ fits. omega (arith, own-is-null r)) (gone .words)
     go (GoneOn.push-5 s p t gone) = Written.one (r .v) (wins-at-place (at (omega arith)) t) (λ fits. fits) (gone .words)
     go (GoneOn.pop-5 s p t gone) = Written.one (own r) (wins-at-near (at (omega arith)) t) (λ fits. omega (arith, own-is-null r)) (gone .words)
-    go (GoneOn.loses gone) = Written.nothing (gone .words)
-
--- a word below 2^64 has a counter of at most 4,294,967,295
-abbrev pub IsWord : ℕ → Type 0
-IsWord word = word < 18446744073709551616
+    go (GoneOn.loses place from to then access other gone) = Written.nothing (gone .words)
 
 module _ {strip left : List ℕ} {order : ℕ} where
   written-length : Written strip order left → length left ≡ length strip
@@ -63,9 +60,7 @@ module _ {strip left : List ℕ} {order : ℕ} where
   written-words small words (Written.nothing same) = rw same words
   written-words small words (Written.one {place} {from} to w fits is) =
       let was : IsWord from = subst IsWord (w .took .same) (words place (w .within)) in
-      let unended = w .took .unended in
-      let value = fits small in
-      rw is (every-set IsWord 0 strip place (raisedTo from to) words (omega arith))
+      rw is (every-set IsWord 0 strip place (raisedTo from to) words (raised-is-word _ from to (w .took) was (fits small)))
 
 module _ (strip : List ℕ) (table : List Record) (call : Call) where
   call-writes : Written strip (recordOf table call .v) (callOf strip table call .strip)

@@ -1,3 +1,2 @@
-pub mod Play
 pub mod Invariant
 pub mod Remembered

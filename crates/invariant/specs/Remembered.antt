@@ -1,5 +1,5 @@
 -- What a record at stage 2 or 3 remembers of the plain strip at its last look, which FULL and EMPTY will name, and what a record's
--- operation answers on a plain strip.
+-- operation gives on a plain strip.
 use Prim.Native.Nat.{ℕ}
 use mathlib.Core.Path.{_≡_}
 use mathlib.Core.Bool.{true}
@@ -9,11 +9,11 @@ use Rattle.word.specs.Word.{valueOf}
 use Rattle.party.specs.Answer.{numberOf, carriedOf}
 use Rattle.party.specs.declared.Record.{Record}
 use Rattle.party.specs.declared.Answer.{Answer}
+use Rattle.plain.specs.Plain.{Plain}
+use Rattle.plain.specs.Play.{room, Yields}
 use Rattle.step.specs.Stages.{own}
 use Rattle.step.specs.Follow.{pushAtWall}
 use Rattle.step.specs.Step.{maxOf}
-use Rattle.strip.specs.Plain.{Plain}
-use Rattle.invariant.specs.Play.{room, play}
 use Rattle.invariant.specs.Invariant.{FreshFirst}
 
 -- `then` is the plain strip at the record's last look in stage 1 or 2
@@ -23,7 +23,5 @@ pub record Remembers (strip : List ℕ) (r : Record) (then : Plain) : Type 0 whe
   pub empty-then : r .stage ≡ 3 → FreshFirst strip r → length (then .orders) ≡ 0
 
 -- the record's operation, played on the plain strip p, gives this answer and leaves q
-pub record Plays (r : Record) (p : Plain) (answer : Answer) (q : Plain) : Type 0 where
-  pub number : numberOf (play (r .operation) (r .v) p .answer) ≡ numberOf answer
-  pub carried : carriedOf (play (r .operation) (r .v) p .answer) ≡ carriedOf answer
-  pub plain : play (r .operation) (r .v) p .plain ≡ q
+abbrev pub RecordYields : Record → Plain → Answer → Plain → Type 0
+RecordYields r p answer q = Yields (r .operation) (r .v) p (numberOf answer) (carriedOf answer) q

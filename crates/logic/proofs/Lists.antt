@@ -1,14 +1,15 @@
--- Lists after one element was set, put together or cut.
+-- Lists after one element was set, put together or cut, and lists of one or of the same.
 use Prim.Native.Nat.{ℕ, zero, suc, _+_, _<_}
 use mathlib.Core.Path.{_≡_, refl, ap, subst}
 use mathlib.Core.Bool.{Bool, true, false}
 use mathlib.Core.List.{List, [], _∷_, _++_, map}
-use lib.ListN.{length, getD, set, take, drop, length-set, length-take, length-drop}
+use lib.ListN.{length, getD, set, take, drop, replicate, length-set, length-take, length-drop}
 use lib.Seq.{getD-set-same, getD-set-other, set-out, getD-take, getD-drop}
 use lib.Dec.{eqb, ltb}
 use borrow.Author.Tests.{eqb-true, eqb-false, ltb-true, ltb-false}
 use native.Mathlib.Omega.{arith}
-use Rattle.logic.specs.Every.{Every}
+use Rattle.logic.specs.Every.{Every, Pairs}
+use Rattle.logic.specs.Total.{total}
 
 -- An element after one was set is the new one, or what it was.
 pub at-set : {A : Type 0} (P : A → Type 0) (past : A) (l : List A) (j i : ℕ) (a : A)
@@ -26,10 +27,6 @@ pub every-set : {A : Type 0} (P : A → Type 0) (past : A) (l : List A) (j : ℕ
 every-set P past l j a every new i within =
     at-set P past l j i a (λ at. new) (every i (subst (λ (n : ℕ). i < n) (length-set l j a) within))
 
--- What holds of every two elements.
-abbrev pub Pairs : {A : Type 0} → (R : A → A → Type 0) → (past : A) → List A → Type 0
-Pairs R past l = (i j : ℕ) → i < length l → j < length l → R (getD l i past) (getD l j past)
-
 -- What held of every two elements, and holds of the one that was set with itself and with each, both ways round, holds of every
 -- two.
 pub pairs-set : {A : Type 0} (R : A → A → Type 0) (past : A) (l : List A) (j : ℕ) (a : A)
@@ -45,6 +42,16 @@ pub map-set : {A B : Type 0} (f : A → B) (l : List A) (j : ℕ) (a : A) → ma
 map-set f [] j a = refl
 map-set f (x ∷ l) zero a = refl
 map-set {B = B} f (x ∷ l) (suc j) a = ap (λ (rest : List B). f x ∷ rest) (map-set f l j a)
+
+-- A list of one, and a list of the same.
+pub every-one : {A : Type 0} (P : A → Type 0) (past a : A) → P a → Every P past (a ∷ [])
+every-one P past a holds zero within = holds
+every-one P past a holds (suc i) within = absurd (omega arith)
+
+pub all-the-same : {A : Type 0} (n i : ℕ) (a : A) → getD (replicate n a) i a ≡ a
+all-the-same zero i a = refl
+all-the-same (suc n) zero a = refl
+all-the-same (suc n) (suc i) a = all-the-same n i a
 
 -- What holds of every element of two lists holds of every element of the two together, and of every part of one.
 pub every-append : {A : Type 0} (P : A → Type 0) (past : A) (l m : List A) → Every P past l → Every P past m → Every P past (l ++ m)
@@ -62,3 +69,9 @@ pub every-drop : {A : Type 0} (P : A → Type 0) (past : A) (n : ℕ) (l : List 
 every-drop P past n l every i within =
     let short = length-drop n l in
     rw (getD-drop n l i past) (every (n + i) (omega arith))
+
+-- What is summed over two lists together is the sum of both.
+pub total-of-both : {A : Type 0} (weight : A → ℕ) (l m : List A) → total weight (l ++ m) ≡ total weight l + total weight m
+unfolding total
+total-of-both weight [] m = omega arith
+total-of-both weight (a ∷ l) m = omega (arith, total-of-both weight l m)

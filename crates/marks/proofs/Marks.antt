@@ -9,7 +9,7 @@ use Rattle.step.specs.Step.{stepOwn, stepRefusal, stepOf, stepLeaves}
 use Rattle.step.specs.Call.{gate, callOf}
 use Rattle.strip.specs.Measure.{measureOf}
 use Rattle.strip.specs.Measure as measure
-use Rattle.invariant.specs.Play.{play}
+use Rattle.plain.specs.Play.{play}
 use Rattle.placing.specs.Placing.{atEntry, inOrder}
 use Rattle.history.specs.Run.{lineOf as runLine, leaves, linesFrom, endFrom}
 use Rattle.history.specs.Finished.{finishedFrom}

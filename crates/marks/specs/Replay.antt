@@ -6,8 +6,8 @@ use lib.ListN.{length}
 use lib.Dec.{eqb}
 use Rattle.party.specs.Answer.{numberOf, carriedOf}
 use Rattle.step.specs.Call.{Call}
-use Rattle.strip.specs.Plain.{Plain}
-use Rattle.invariant.specs.Play.{play}
+use Rattle.plain.specs.Plain.{Plain}
+use Rattle.plain.specs.Play.{play}
 use Rattle.strip.specs.Shape.{plainBetween}
 use Rattle.strip.specs.Measure.{lefts, orders}
 use Rattle.placing.specs.Placing.{inOrder}

@@ -2,5 +2,6 @@ pub mod Operations
 pub mod Places
 pub mod Stages
 pub mod Cleared
+pub mod Refusals
 pub mod Gives
 pub mod Kept

@@ -9,9 +9,9 @@ use borrow.Author.Tests.{eqb-true, eqb-false, eq-eqb, ne-eqb}
 use native.Mathlib.Omega.{arith}
 use Rattle.placing.specs.Placing.{atEntry, inOrder, Plays}
 
-module _ {F S : Type 0} (Gives : F → S → S → Type 0) where
+module _ {F S : Type 0} (Agrees : F → S → S → Type 0) where
   -- what plays one behind the other plays each
-  pub plays-apart : (s u : S) (fs gs : List F) → Plays Gives s (fs ++ gs) u → (t : S) × Plays Gives s fs t × Plays Gives t gs u
+  pub plays-apart : (s u : S) (fs gs : List F) → Plays Agrees s (fs ++ gs) u → (t : S) × Plays Agrees s fs t × Plays Agrees t gs u
   plays-apart s u [] gs plays = (s, refl, plays)
   plays-apart s u (f ∷ fs) gs plays =
       let rest = plays-apart (plays .0) u fs gs (plays .2) in
@@ -52,17 +52,17 @@ module _ {F : Type 0} (effect : F → ℕ) (past : F) where
         alone-at fs i (omega arith) (λ j inside other. others (suc j) (omega arith) (λ (e : suc j ≡ suc i). other (omega arith))),
       ) refl
 
-module _ {F S : Type 0} (effect : F → ℕ) (Gives : F → S → S → Type 0) (past : F) where
+module _ {F S : Type 0} (effect : F → ℕ) (Agrees : F → S → S → Type 0) (past : F) where
   -- What plays in order, with no effect shared, answers each as the state does that those with earlier effects leave.
-  pub each-answers-the-state-before : (n : ℕ) (s u : S) (fs : List F) → Plays Gives s (inOrder effect n fs) u
+  pub each-answers-the-state-before : (n : ℕ) (s u : S) (fs : List F) → Plays Agrees s (inOrder effect n fs) u
       → (i : ℕ) → i < length fs → effect (getD fs i past) < n
       → ((j : ℕ) → j < length fs → (j ≡ i → ⊥) → effect (getD fs j past) ≡ effect (getD fs i past) → ⊥)
-      → (t v : S) × Plays Gives s (inOrder effect (effect (getD fs i past)) fs) t × Gives (getD fs i past) t v
+      → (t v : S) × Plays Agrees s (inOrder effect (effect (getD fs i past)) fs) t × Agrees (getD fs i past) t v
   unfolding inOrder
   each-answers-the-state-before n s u fs plays i within early others =
       let e = effect (getD fs i past) in
       let rest = in-order-from effect past n (suc e) fs early in
-      let upto = plays-apart Gives s u (inOrder effect (suc e) fs) (rest .0) (subst (λ (l : List F). Plays Gives s l u) (rest .1) plays) in
-      let here = plays-apart Gives s (upto .0) (inOrder effect e fs) (atEntry effect e fs) (upto .1) in
-      let it = subst (λ (l : List F). Plays Gives (here .0) l (upto .0)) (alone-at effect past fs i within others) (here .2) in
+      let upto = plays-apart Agrees s u (inOrder effect (suc e) fs) (rest .0) (subst (λ (l : List F). Plays Agrees s l u) (rest .1) plays) in
+      let here = plays-apart Agrees s (upto .0) (inOrder effect e fs) (atEntry effect e fs) (upto .1) in
+      let it = subst (λ (l : List F). Plays Agrees (here .0) l (upto .0)) (alone-at effect past fs i within others) (here .2) in
       (here .0, it .0, here .1, it .1)

@@ -1,38 +1,23 @@
--- What a call on a strip and a table of records keeps: a refused one changes nothing, and valid records stay valid.
+-- What a call on a strip and a table of records keeps: a refused one changes nothing, valid records stay valid, and the table stays
+-- as long as it was.
 use Prim.Native.Nat.{ℕ}
-use mathlib.Core.Path.{_≡_, refl, _∙_, ap}
-use mathlib.Core.Bool.{Bool, true, false, not, _&&_}
+use mathlib.Core.Path.{_≡_, sym, _∙_, ap}
+use mathlib.Core.Bool.{true, true≢false}
 use mathlib.Core.List.{List}
-use lib.ListN.{length, set}
-use lib.Seq.{set-getD}
-use lib.Dec.{eqb, leb}
-use borrow.Author.Tests.{eqb-true, leb-false}
-use Rattle.logic.specs.Pick.{pick}
+use lib.ListN.{length, set, length-set}
+use native.Mathlib.Omega.{arith}
 use Rattle.logic.specs.Every.{Every}
-use Rattle.logic.proofs.Bools.{passed}
 use Rattle.logic.proofs.Lists.{every-set}
 use Rattle.party.specs.Record.{idle}
 use Rattle.party.specs.Valid.{validOf}
-use Rattle.party.specs.Answer.{isRefusal, numberOf, carriedOf, RefusedKeeps}
+use Rattle.party.specs.Answer.{isRefusal, numberOf, carriedOf}
 use Rattle.party.specs.declared.Record.{Record}
-use Rattle.party.proofs.Kept.{refused-start-changes-nothing, refused-withdraw-changes-nothing, start-keeps-valid, withdraw-keeps-valid}
-use Rattle.step.specs.Step.{stripFits, maxOf}
-use Rattle.step.specs.Call.{Call, partyOf, tableFits, isUnknown, gate, ownOf, ownLeaves, Left, recordOf, through, turnedAway, callOf}
-use Rattle.step.proofs.Kept.{refused-step-changes-nothing, step-keeps-valid}
-
--- on the party's own record
-own-keeps : (strip : List ℕ) (r : Record) (call : Call) → RefusedKeeps r (ownOf strip r call)
-    × (isRefusal (numberOf (ownOf strip r call .answer)) ≡ true → ownLeaves strip r call ≡ strip)
-own-keeps strip r (Call.start party operation order) =
-    (refused-start-changes-nothing (maxOf (length strip)) r operation order, λ h. refl)
-own-keeps strip r (Call.step party hint) = refused-step-changes-nothing strip r hint
-own-keeps strip r (Call.withdraw party) = (refused-withdraw-changes-nothing (maxOf (length strip)) r, λ h. refl)
-
-own-keeps-valid : (strip : List ℕ) (r : Record) (call : Call) → validOf (maxOf (length strip)) r ≡ true
-    → validOf (maxOf (length strip)) (ownOf strip r call .rec) ≡ true
-own-keeps-valid strip r (Call.start party operation order) = start-keeps-valid (maxOf (length strip)) r operation order
-own-keeps-valid strip r (Call.step party hint) = step-keeps-valid strip r hint
-own-keeps-valid strip r (Call.withdraw party) = withdraw-keeps-valid (maxOf (length strip)) r
+use Rattle.party.specs.declared.Answer.{Answer}
+use Rattle.party.proofs.Kept.{idle-is-valid, begun-is-valid}
+use Rattle.step.specs.Step.{maxOf}
+use Rattle.step.specs.Call.{Call, Left, callOf}
+use Rattle.step.proofs.Kept.{going-on-is-no-refusal, step-keeps-valid}
+use Rattle.step.proofs.Called.{Leaves, Called, called}
 
 -- A refused call carries no order and leaves every word and every record.
 pub record Unchanged (strip : List ℕ) (table : List Record) (left : Left) : Type 0 where
@@ -40,46 +25,47 @@ pub record Unchanged (strip : List ℕ) (table : List Record) (left : Left) : Ty
   pub strip-kept : left .strip ≡ strip
   pub table-kept : left .table ≡ table
 
-pub refused-call-changes-nothing : (strip : List ℕ) (table : List Record) (call : Call)
-    → isRefusal (numberOf (callOf strip table call .answer)) ≡ true → Unchanged strip table (callOf strip table call)
-unfolding callOf
-refused-call-changes-nothing strip table call = go (eqb (gate (length strip) (length table) call) 0)
-  where
-    refusal : Left
-    refusal = turnedAway strip table (gate (length strip) (length table) call)
+module _ (strip : List ℕ) (table : List Record) (call : Call) where
+  pub refused-call-changes-nothing : isRefusal (numberOf (callOf strip table call .answer)) ≡ true
+      → Unchanged strip table (callOf strip table call)
+  refused-call-changes-nothing refused = go (called strip table call)
+    where
+      is-refused : {answer : Answer} {words : List ℕ} {records : List Record} → Leaves strip table call answer words records
+          → isRefusal (numberOf answer) ≡ true
+      is-refused left = ap (λ (a : Answer). isRefusal (numberOf a)) (sym (left .answered)) ∙ refused
 
-    go : (clear : Bool) → isRefusal (numberOf (pick clear (through strip table call) refusal .answer)) ≡ true
-        → Unchanged strip table (pick clear (through strip table call) refusal)
-    go true h =
-        let r = recordOf table call in
-        let keeps = own-keeps strip r call in
-        record {
-          carried = keeps .0 h .1;
-          strip-kept = keeps .1 h;
-          table-kept = ap (set table (partyOf call)) (keeps .0 h .0) ∙ set-getD table (partyOf call) idle;
-        }
-    go false h = record { carried = refl; strip-kept = refl; table-kept = refl }
+      go : Called strip table call → Unchanged strip table (callOf strip table call)
+      go (Called.refuses number refusal left) =
+          record { carried = ap carriedOf (left .answered); strip-kept = left .strip-is; table-kept = left .table-is }
+      go (Called.starts party operation order is known clear left) = absurd (true≢false (sym (is-refused left)))
+      go (Called.withdraws party is known left) = absurd (true≢false (sym (is-refused left)))
+      go (Called.steps party hint is known clear on left) =
+          absurd (true≢false (sym (is-refused left) ∙ going-on-is-no-refusal strip _ hint on))
 
--- Valid records stay valid, whatever is called.
-pub valid-records-stay-valid : (strip : List ℕ) (table : List Record) (call : Call)
-    → Every (λ r. validOf (maxOf (length strip)) r ≡ true) idle table
-    → Every (λ r. validOf (maxOf (length strip)) r ≡ true) idle (callOf strip table call .table)
-unfolding callOf gate
-valid-records-stay-valid strip table call valid = go (eqb (gate (length strip) (length table) call) 0) refl
-  where
-    Valid : Record → Type 0
-    Valid r = validOf (maxOf (length strip)) r ≡ true
+  -- Valid records stay valid, whatever is called.
+  pub valid-records-stay-valid : Every (λ r. validOf (maxOf (length strip)) r ≡ true) idle table
+      → Every (λ r. validOf (maxOf (length strip)) r ≡ true) idle (callOf strip table call .table)
+  valid-records-stay-valid valid = go (called strip table call)
+    where
+      Valid : Record → Type 0
+      Valid r = validOf (maxOf (length strip)) r ≡ true
 
-    refusal : Left
-    refusal = turnedAway strip table (gate (length strip) (length table) call)
+      one : {answer : Answer} {words : List ℕ} (party : ℕ) (r : Record) → Leaves strip table call answer words (set table party r)
+          → Valid r → Every Valid idle (callOf strip table call .table)
+      one party r left new = rw (left .table-is) (every-set Valid idle table party r valid new)
 
-    go : (clear : Bool) → eqb (gate (length strip) (length table) call) 0 ≡ clear
-        → Every Valid idle (pick clear (through strip table call) refusal .table)
-    go true e =
-        let none = eqb-true (gate (length strip) (length table) call) 0 e in
-        let past1 = passed (not (stripFits (length strip) && tableFits (length table))) 0 _ none in
-        let past11 = passed (isUnknown call) 10 _ (past1 .1) in
-        let past3 = passed (leb (length table) (partyOf call)) 2 0 (past11 .1) in
-        let known = leb-false (length table) (partyOf call) (past3 .0) in
-        every-set Valid idle table (partyOf call) _ valid (own-keeps-valid strip (recordOf table call) call (valid (partyOf call) known))
-    go false e = valid
+      go : Called strip table call → Every Valid idle (callOf strip table call .table)
+      go (Called.refuses number refusal left) = rw (left .table-is) valid
+      go (Called.starts party operation order is known clear left) =
+          one party _ left (begun-is-valid (maxOf (length strip)) operation order (omega (arith, clear .known)) (clear .ordered))
+      go (Called.withdraws party is known left) = one party idle left (idle-is-valid (maxOf (length strip)))
+      go (Called.steps party hint is known clear on left) = one party _ left (step-keeps-valid strip _ hint (valid party known))
+
+  pub table-stays-as-long : length (callOf strip table call .table) ≡ length table
+  table-stays-as-long = go (called strip table call)
+    where
+      go : Called strip table call → length (callOf strip table call .table) ≡ length table
+      go (Called.refuses number refusal left) = ap length (left .table-is)
+      go (Called.starts party operation order is known clear left) = ap length (left .table-is) ∙ length-set table party _
+      go (Called.withdraws party is known left) = ap length (left .table-is) ∙ length-set table party idle
+      go (Called.steps party hint is known clear on left) = ap length (left .table-is) ∙ length-set table party _

@@ -43,7 +43,7 @@ module _ (strip : List ℕ) (r : Record) (hint : ℕ) where
   going-on-is-no-refusal (GoneOn.pop-4 s p t gone) = number-is gone
   going-on-is-no-refusal (GoneOn.push-5 s p t gone) = number-is gone
   going-on-is-no-refusal (GoneOn.pop-5 s p t gone) = number-is gone
-  going-on-is-no-refusal (GoneOn.loses gone) = number-is gone
+  going-on-is-no-refusal (GoneOn.loses place from to then access other gone) = number-is gone
 
   -- A refused step gives its record back, carries no order and leaves every word.
   pub refused-step-changes-nothing : RefusedKeeps r (stepOf strip r hint)
@@ -102,7 +102,7 @@ module _ (strip : List ℕ) (r : Record) (hint : ℕ) where
       gone-valid gone (at-valid max _ (ValidAt.at5 refl (each .0) (each .1)))
   going-on-keeps-valid clear (GoneOn.push-5 s p t gone) = gone-valid gone (idle-is-valid max)
   going-on-keeps-valid clear (GoneOn.pop-5 s p t gone) = gone-valid gone (idle-is-valid max)
-  going-on-keeps-valid clear (GoneOn.loses gone) =
+  going-on-keeps-valid clear (GoneOn.loses place from to then access other gone) =
       gone-valid gone (again-is-valid (busy-fits max r (clear .valid) (clear .busy)))
 
   -- A valid record stays valid.

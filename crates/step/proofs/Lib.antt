@@ -3,4 +3,5 @@ pub mod Accesses
 pub mod EachStage
 pub mod Went
 pub mod Kept
+pub mod Called
 pub mod Calls

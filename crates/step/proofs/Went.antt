@@ -9,10 +9,10 @@ use lib.Dec.{eqb}
 use borrow.Author.Tests.{eqb-true, eqb-false}
 use native.Mathlib.Omega.{arith}
 use Rattle.logic.proofs.Bools.{whichever}
-use Rattle.word.specs.Word.{valueOf, counterOf, lastCounter, raisedTo}
+use Rattle.word.specs.Word.{valueOf, raisedTo}
 use Rattle.word.specs.Swap.{swapOf, wordsAfter}
 use Rattle.word.specs.declared.Swapped.{Swapped}
-use Rattle.word.proofs.Laws.{SwapGoes, swap-goes}
+use Rattle.word.proofs.Laws.{Took, SwapGoes, swap-goes}
 use Rattle.party.specs.Operation.{isPush}
 use Rattle.party.specs.Record.{again, atStage, withPlace, withFirst, withSecond}
 use Rattle.party.specs.Valid.{isIdle, validOf}
@@ -21,8 +21,9 @@ use Rattle.party.specs.declared.Record.{Record}
 use Rattle.party.specs.declared.Answered.{Answered}
 use Rattle.party.specs.declared.Answer.the-variants.{Pushed, Popped, Full, Empty}
 use Rattle.party.proofs.Stages.{ValidAt, valid-at}
+use Rattle.party.proofs.Refusals.{Checked, refusal-is-not-0}
 use Rattle.step.specs.Stages.{near, own, atPlace, atNear, accessOf}
-use Rattle.step.specs.Follow.{misled, pushAtWall, popAtFar, judgeOf, recheckOf, wonOf, swappedOf}
+use Rattle.step.specs.Follow.{pushAtWall, popAtFar, judgeOf, recheckOf, wonOf, swappedOf}
 use Rattle.step.specs.Step.{stripFits, maxOf, hintFits, stepOwn, stepRefusal, stepOf, stepLeaves}
 use Rattle.step.specs.declared.AfterSwap.{AfterSwap}
 use Rattle.step.specs.declared.Access.the-variants.{Swap}
@@ -30,10 +31,14 @@ use Rattle.step.proofs.Cleared.{Steppable, steppable}
 use Rattle.step.proofs.Accesses.{when-refused, when-looks, when-swaps}
 use Rattle.step.proofs.EachStage.{stage-1, stage-2, stage-3, stage-4-push, stage-4-pop, stage-5-push, stage-5-pop, aimed-first, aimed-later}
 
--- a swap that won met the word it expected, whose counter was not at its end
-pub record Took (met from : ℕ) : Type 0 where
-  pub same : met ≡ from
-  pub unended : counterOf from ≡ lastCounter → ⊥
+-- Stage 2 drops the attempt by one of two tests: the first value is own null, or the second is not.
+pub data Misled (strip : List ℕ) (r : Record) : Type 0 where
+  first-own : valueOf (r .first) ≡ own r → Misled strip r
+  second-other : (valueOf (atPlace strip r) ≡ own r → ⊥) → Misled strip r
+
+pub record NotMisled (strip : List ℕ) (r : Record) : Type 0 where
+  pub first-other : valueOf (r .first) ≡ own r → ⊥
+  pub second-own : valueOf (atPlace strip r) ≡ own r
 
 module _ (strip : List ℕ) (r : Record) (hint : ℕ) where
   pub record Gone (given : Answered) (left : List ℕ) : Type 0 where
@@ -43,12 +48,12 @@ module _ (strip : List ℕ) (r : Record) (hint : ℕ) where
   pub data GoneOn : Type 0 where
     remembers : r .stage ≡ 1
         → Gone (goingOn (atStage 2 (withFirst (atNear strip (withPlace hint r)) (withPlace hint r)))) strip → GoneOn
-    drops : r .stage ≡ 2 → misled r (atPlace strip r) ≡ true → Gone (goingOn (again r)) strip → GoneOn
-    fills : r .stage ≡ 2 → misled r (atPlace strip r) ≡ false → pushAtWall (maxOf (length strip)) r ≡ true
+    drops : r .stage ≡ 2 → Misled strip r → Gone (goingOn (again r)) strip → GoneOn
+    fills : r .stage ≡ 2 → NotMisled strip r → pushAtWall (maxOf (length strip)) r ≡ true
         → Gone (ends Full) strip → GoneOn
-    doubts : r .stage ≡ 2 → misled r (atPlace strip r) ≡ false → popAtFar r ≡ true
+    doubts : r .stage ≡ 2 → NotMisled strip r → popAtFar r ≡ true
         → Gone (goingOn (atStage 3 (withSecond (atPlace strip r) r))) strip → GoneOn
-    readies : r .stage ≡ 2 → misled r (atPlace strip r) ≡ false → pushAtWall (maxOf (length strip)) r ≡ false → popAtFar r ≡ false
+    readies : r .stage ≡ 2 → NotMisled strip r → pushAtWall (maxOf (length strip)) r ≡ false → popAtFar r ≡ false
         → Gone (goingOn (atStage 4 (withSecond (atPlace strip r) r))) strip → GoneOn
     empties : r .stage ≡ 3 → atNear strip r ≡ r .first → Gone (ends Empty) strip → GoneOn
     rechecks : r .stage ≡ 3 → (atNear strip r ≡ r .first → ⊥) → Gone (goingOn (atStage 4 r)) strip → GoneOn
@@ -60,23 +65,22 @@ module _ (strip : List ℕ) (r : Record) (hint : ℕ) where
         → Gone (ends Pushed) (set strip (r .k) (raisedTo (r .second) (r .v))) → GoneOn
     pop-5 : r .stage ≡ 5 → isPush (r .operation) ≡ false → Took (atNear strip r) (r .first)
         → Gone (ends (Popped (valueOf (r .first)))) (set strip (near r) (raisedTo (r .first) (own r))) → GoneOn
-    loses : Gone (goingOn (again r)) strip → GoneOn
+    -- the swap of its stage met another word than the one it expected
+    loses : (place from to : ℕ) (then : AfterSwap) → accessOf r ≡ Swap place from to then → (getD strip place 0 ≡ from → ⊥)
+        → Gone (goingOn (again r)) strip → GoneOn
 
   -- refused by a check, or by a swap at its counter's end; or gone on
   pub data Went : Type 0 where
     stays : (number : ℕ) → isRefusal number ≡ true → Gone (refused number r) strip → Went
     goes : Steppable (length strip) r hint → GoneOn → Went
 
--- every number that the checks give is one of the table's refusals
-pub refusal-is : (words : ℕ) (r : Record) (hint : ℕ) → (stepRefusal words r hint ≡ 0 → ⊥) → isRefusal (stepRefusal words r hint) ≡ true
+pub step-checked : (words : ℕ) (r : Record) (hint : ℕ) → Checked (stepRefusal words r hint)
 unfolding stepRefusal stepOwn
-refusal-is words r hint =
-    whichever P (not (stripFits words)) (λ n. refl)
-    (whichever P (not (validOf (maxOf words) r)) (λ n. refl)
-    (whichever P (isIdle r) (λ n. refl) (whichever P (not (hintFits (maxOf words) r hint)) (λ n. refl) (λ n. absurd (n refl)))))
-  where
-    P : ℕ → Type 0
-    P n = (n ≡ 0 → ⊥) → isRefusal n ≡ true
+step-checked words r hint =
+    whichever Checked (not (stripFits words)) (Checked.some refl)
+    (whichever Checked (not (validOf (maxOf words) r)) (Checked.some refl)
+    (whichever Checked (isIdle r) (Checked.some refl)
+    (whichever Checked (not (hintFits (maxOf words) r hint)) (Checked.some refl) (Checked.none refl))))
 
 module _ (strip : List ℕ) (r : Record) (hint : ℕ) (passes : stepRefusal (length strip) r hint ≡ 0) where
   clear : Steppable (length strip) r hint
@@ -91,7 +95,8 @@ module _ (strip : List ℕ) (r : Record) (hint : ℕ) (passes : stepRefusal (len
   judging : r .stage ≡ 2 → Went strip r hint
   unfolding judgeOf
   judging s =
-      go (misled r word) (pushAtWall (maxOf (length strip)) r) (popAtFar r) refl refl refl
+      go (eqb (valueOf (r .first)) (own r)) (eqb (valueOf word) (own r)) (pushAtWall (maxOf (length strip)) r) (popAtFar r)
+      refl refl refl refl
     where
       word : ℕ
       word = atPlace strip r
@@ -101,12 +106,16 @@ module _ (strip : List ℕ) (r : Record) (hint : ℕ) (passes : stepRefusal (len
           let step = when-looks strip r r hint passes (aimed-later r hint (λ e. omega arith)) (r .k) _ word (stage-2 r s) refl in
           record { answered = sym (step .0); words = sym (step .1) }
 
-      go : (drop wall far : Bool) → misled r word ≡ drop → pushAtWall (maxOf (length strip)) r ≡ wall → popAtFar r ≡ far
-          → Went strip r hint
-      go true wall far d w f = goes clear (drops s d (simp d at looked))
-      go false true far d w f = goes clear (fills s d w (simp (d, w) at looked))
-      go false false true d w f = goes clear (doubts s d f (simp (d, w, f) at looked))
-      go false false false d w f = goes clear (readies s d w f (simp (d, w, f) at looked))
+      right : eqb (valueOf (r .first)) (own r) ≡ false → eqb (valueOf word) (own r) ≡ true → NotMisled strip r
+      right a b = record { first-other = eqb-false _ _ a; second-own = eqb-true _ _ b }
+
+      go : (first second wall far : Bool) → eqb (valueOf (r .first)) (own r) ≡ first → eqb (valueOf word) (own r) ≡ second
+          → pushAtWall (maxOf (length strip)) r ≡ wall → popAtFar r ≡ far → Went strip r hint
+      go true second wall far a b w f = goes clear (drops s (Misled.first-own (eqb-true _ _ a)) (simp a at looked))
+      go false false wall far a b w f = goes clear (drops s (Misled.second-other (eqb-false _ _ b)) (simp (a, b) at looked))
+      go false true true far a b w f = goes clear (fills s (right a b) w (simp (a, b, w) at looked))
+      go false true false true a b w f = goes clear (doubts s (right a b) f (simp (a, b, w, f) at looked))
+      go false true false false a b w f = goes clear (readies s (right a b) w f (simp (a, b, w, f) at looked))
 
   rechecking : r .stage ≡ 3 → Went strip r hint
   unfolding recheckOf
@@ -144,9 +153,8 @@ module _ (strip : List ℕ) (r : Record) (hint : ℕ) (passes : stepRefusal (len
           record { answered = sym (step .0); words = sym (step .1) }
 
       go : SwapGoes met from → Went strip r hint
-      go (SwapGoes.won same unended e) =
-          goes clear (won (record { same = same; unended = unended }) (subst Swapping e swapped))
-      go (SwapGoes.lost other e) = goes clear (loses (subst Swapping e swapped))
+      go (SwapGoes.won took e) = goes clear (won took (subst Swapping e swapped))
+      go (SwapGoes.lost other e) = goes clear (loses place from to then access other (subst Swapping e swapped))
       go (SwapGoes.stuck same ended e) = stays 9 refl (subst Swapping e swapped)
 
   fourth : r .stage ≡ 4 → (push : Bool) → isPush (r .operation) ≡ push → Went strip r hint
@@ -166,16 +174,14 @@ module _ (strip : List ℕ) (r : Record) (hint : ℕ) (passes : stepRefusal (len
   by-stage (ValidAt.at5 s fits swap) = fifth s (isPush (r .operation)) refl
 
 pub went : (strip : List ℕ) (r : Record) (hint : ℕ) → Went strip r hint
-went strip r hint = go (eqb number 0) refl
+went strip r hint = go (step-checked (length strip) r hint)
   where
     number : ℕ
     number = stepRefusal (length strip) r hint
 
-    go : (none : Bool) → eqb number 0 ≡ none → Went strip r hint
-    go true e =
-        let passes = eqb-true number 0 e in
+    go : Checked number → Went strip r hint
+    go (Checked.none passes) =
         by-stage strip r hint passes (valid-at (maxOf (length strip)) r (steppable (length strip) r hint passes .valid))
-    go false e =
-        let some = eqb-false number 0 e in
-        let step = when-refused strip r hint some in
-        stays number (refusal-is (length strip) r hint some) (record { answered = step .0; words = step .1 })
+    go (Checked.some refusal) =
+        let step = when-refused strip r hint (refusal-is-not-0 number refusal) in
+        stays number refusal (record { answered = step .0; words = step .1 })

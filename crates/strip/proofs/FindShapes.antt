@@ -9,12 +9,12 @@ use borrow.Author.Tests.{eq-eqb, ne-eqb, eqb-true, eqb-false, leb-true, not-true
 use native.Mathlib.Omega.{arith}
 use Rattle.logic.specs.Pick.{pick}
 use Rattle.logic.proofs.Bools.{both}
-use Rattle.word.specs.Word.{LN, RN}
+use Rattle.word.specs.Word.{LN, RN, valueAt}
 use Rattle.party.specs.Operation.{isRight, ownNull, neighbour, inRange}
 use Rattle.step.specs.Step.{stripFits, maxOf}
 use Rattle.step.proofs.Cleared.{strip-within}
-use Rattle.strip.specs.Plain.{Plain}
-use Rattle.strip.specs.Shape.{StandsFor, valueAt, Bounds}
+use Rattle.plain.specs.Plain.{Plain}
+use Rattle.strip.specs.Shape.{StandsFor, Bounds}
 use Rattle.strip.specs.Find.{isEnd, candidate, firstFrom, findOf}
 use Rattle.strip.specs.declared.Found.the-variants.{Place}
 use Rattle.strip.proofs.Finding.{find-starts}

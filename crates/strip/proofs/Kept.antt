@@ -4,7 +4,7 @@ use mathlib.Core.Path.{_≡_, sym, _∙_}
 use mathlib.Core.List.{List}
 use lib.ListN.{length}
 use Rattle.step.specs.Step.{maxOf}
-use Rattle.strip.specs.Plain.{freshPlain}
+use Rattle.plain.specs.Plain.{freshPlain}
 use Rattle.strip.specs.Shape.{StandsFor}
 use Rattle.strip.specs.Lay.{laidNumber, LayPromise}
 use Rattle.strip.specs.Measure.{measuredNumber, measuredLeft, measuredOrders, measuredRight, MeasurePromise}

@@ -9,10 +9,10 @@ use lib.Dec.{eqb, leb}
 use borrow.Author.Tests.{leb-true, le-leb, eqb-true, eq-eqb, ne-eqb, lt-leb}
 use native.Mathlib.Omega.{arith}
 use Rattle.logic.proofs.Bools.{both}
-use Rattle.word.specs.Word.{RN}
+use Rattle.word.specs.Word.{RN, valueAt}
 use Rattle.step.specs.Step.{stripFits}
-use Rattle.strip.specs.Plain.{Plain}
-use Rattle.strip.specs.Shape.{StandsFor, Shaped, valueAt, Bounds, plainBetween}
+use Rattle.plain.specs.Plain.{Plain}
+use Rattle.strip.specs.Shape.{StandsFor, Shaped, Bounds, plainBetween}
 use Rattle.strip.specs.Measure.{runOf, isLN, isOrder, isRN, lefts, orders, rights, isShaped, measureOf}
 use Rattle.strip.specs.Measure.{measuredNumber, measuredLeft, measuredOrders, measuredRight}
 use Rattle.strip.specs.declared.Measured.the-variants.{Shape}

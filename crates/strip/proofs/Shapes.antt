@@ -9,10 +9,10 @@ use lib.Dec.{ltb}
 use borrow.Author.Tests.{ltb-true, ltb-false}
 use native.Mathlib.Omega.{arith}
 use Rattle.logic.specs.Every.{Every}
-use Rattle.word.specs.Word.{valueOf, LN, RN}
+use Rattle.word.specs.Word.{valueOf, LN, RN, valueAt}
 use Rattle.step.specs.Step.{maxOf}
-use Rattle.strip.specs.Plain.{Plain, valuesOf, placesOf}
-use Rattle.strip.specs.Shape.{IsOrder, StandsFor, valueAt, Bounds, plainBetween}
+use Rattle.plain.specs.Plain.{Plain, placesOf}
+use Rattle.strip.specs.Shape.{valuesOf, IsOrder, StandsFor, Bounds, plainBetween}
 use Rattle.strip.proofs.Lists.{getD-any}
 use Rattle.strip.proofs.Values.{values-length, values-left, values-between, values-right}
 

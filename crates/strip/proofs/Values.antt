@@ -5,8 +5,8 @@ use mathlib.Core.List.{List, _++_, append-nil}
 use lib.ListN.{length, getD, replicate, length-append, length-replicate, getD-replicate, List·getD-append}
 use native.Mathlib.Omega.{arith}
 use Rattle.word.specs.Word.{LN, RN}
-use Rattle.strip.specs.Plain.{Plain, valuesOf, placesOf, freshPlain}
-use Rattle.strip.specs.Shape.{StandsFor}
+use Rattle.plain.specs.Plain.{Plain, placesOf, freshPlain}
+use Rattle.strip.specs.Shape.{valuesOf, StandsFor}
 use Rattle.strip.specs.Lay.{freshStrip}
 use Rattle.strip.proofs.Lists.{getD-past, map-append, map-replicate}
 

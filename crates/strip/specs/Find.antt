@@ -8,7 +8,7 @@ use lib.Dec.{eqb}
 use Rattle.logic.specs.Pick.{pick}
 use Rattle.party.specs.Operation.{isRight, ownNull, neighbour}
 use Rattle.step.specs.Step.{stripFits, maxOf}
-use Rattle.strip.specs.Shape.{valueAt}
+use Rattle.word.specs.Word.{valueAt}
 use Rattle.strip.specs.declared.Found.{Found}
 use Rattle.strip.specs.declared.Found.the-variants.{Place, NotFound}
 

@@ -1,4 +1,3 @@
-pub mod Plain
 pub mod Shape
 pub mod Lay
 pub mod Measure

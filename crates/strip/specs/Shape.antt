@@ -1,11 +1,15 @@
 -- The shape of a strip, twice: as document 01 says it, and by two boundaries.
-use Prim.Native.Nat.{ℕ, _-_, _≤_, _<_}
+use Prim.Native.Nat.{ℕ, _+_, _-_, _≤_, _<_}
 use mathlib.Core.Path.{_≡_}
-use mathlib.Core.List.{List, map}
-use lib.ListN.{length, getD, take, drop}
+use mathlib.Core.List.{List, _++_, map}
+use lib.ListN.{length, take, drop, replicate}
 use Rattle.logic.specs.Every.{Every}
-use Rattle.word.specs.Word.{valueOf, LN, RN}
-use Rattle.strip.specs.Plain.{Plain, valuesOf}
+use Rattle.word.specs.Word.{valueOf, LN, RN, valueAt}
+use Rattle.plain.specs.Plain.{Plain}
+
+-- the values of a strip that stands for p: LN once more than L, the orders, RN once more than R
+abbrev pub valuesOf : Plain → List ℕ
+valuesOf p = replicate (p .left + 1) LN ++ p .orders ++ replicate (p .right + 1) RN
 
 -- orders are 3 and up
 abbrev pub IsOrder : ℕ → Type 0
@@ -18,9 +22,6 @@ pub record StandsFor (strip : List ℕ) (p : Plain) : Type 0 where
 
 abbrev pub Shaped : List ℕ → Type 0
 Shaped strip = (p : Plain) × StandsFor strip p
-
-abbrev pub valueAt : List ℕ → ℕ → ℕ
-valueAt strip place = valueOf (getD strip place 0)
 
 -- LN below lo, orders from lo, RN from hi.
 pub record Bounds (strip : List ℕ) (lo hi : ℕ) : Type 0 where

@@ -6,7 +6,7 @@ ghost use mathlib.Core.Bool.{_&&_, not};
 ghost use Prim.Native.Nat.{_<_};
 ghost use lib.ListN.{length};
 ghost use lib.Dec.{eqb};
-ghost use Rattle.strip.specs.Shape.{valueAt};
+ghost use Rattle.word.specs.Word.{valueAt};
 
 // The place holds own null and its neighbour does not. Find, whose places lie in the strip, calls it.
 pub fn is_end(strip: &[u64], own: u32, place: usize, near: usize) -> bool

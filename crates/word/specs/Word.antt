@@ -1,5 +1,11 @@
 -- A word of the strip: counter × 2^32 + value.
-use Prim.Native.Nat.{ℕ, _+_, _*_, _/_, _%_}
+use Prim.Native.Nat.{ℕ, _+_, _*_, _/_, _%_, _<_}
+use mathlib.Core.List.{List}
+use lib.ListN.{getD}
+
+-- 64 bits: a counter of at most 4,294,967,295
+abbrev pub IsWord : ℕ → Type 0
+IsWord w = w < 18446744073709551616
 
 abbrev pub valueOf : ℕ → ℕ
 valueOf w = w % 4294967296
@@ -24,3 +30,7 @@ lastCounter = 4294967295
 -- what a swap from the word w to a value writes: the counter goes up by one
 abbrev pub raisedTo : (w value : ℕ) → ℕ
 raisedTo w value = wordOf (counterOf w + 1) value
+
+-- the value at a place of a strip
+abbrev pub valueAt : List ℕ → ℕ → ℕ
+valueAt strip place = valueOf (getD strip place 0)

@@ -1,8 +1,7 @@
 -- The plain strip, used to say what is right: a number L of free places on the left, a list of orders, and a number R on the right.
 use Prim.Native.Nat.{ℕ, _+_, _-_}
-use mathlib.Core.List.{List, [], _++_}
-use lib.ListN.{length, replicate}
-use Rattle.word.specs.Word.{LN, RN}
+use mathlib.Core.List.{List, []}
+use lib.ListN.{length}
 
 pub record Plain : Type 0 where
   pub left : ℕ
@@ -16,7 +15,3 @@ freshPlain max divide = record { left = divide; orders = []; right = max - divid
 -- L + length + R, which is MAX
 abbrev pub placesOf : Plain → ℕ
 placesOf p = p .left + length (p .orders) + p .right
-
--- the values of a strip that stands for p: LN once more than L, the orders, RN once more than R
-abbrev pub valuesOf : Plain → List ℕ
-valuesOf p = replicate (p .left + 1) LN ++ p .orders ++ replicate (p .right + 1) RN

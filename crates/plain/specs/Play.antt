@@ -1,13 +1,15 @@
 -- The four operations on a plain strip: what each answers and leaves.
 use Prim.Native.Nat.{ℕ, _+_, _-_}
+use mathlib.Core.Path.{_≡_}
 use mathlib.Core.List.{[], _∷_, _++_}
 use lib.ListN.{length, getD, take, drop}
 use lib.Dec.{eqb}
 use Rattle.logic.specs.Pick.{pick}
 use Rattle.party.specs.Operation.{isRight, isPush}
+use Rattle.party.specs.Answer.{numberOf, carriedOf}
 use Rattle.party.specs.declared.Answer.{Answer}
 use Rattle.party.specs.declared.Answer.the-variants.{Pushed, Popped, Full, Empty}
-use Rattle.strip.specs.Plain.{Plain}
+use Rattle.plain.specs.Plain.{Plain}
 
 -- the free places at an operation's end: R on the right, L on the left
 abbrev pub room : (operation : ℕ) → Plain → ℕ
@@ -47,3 +49,9 @@ playPop operation p =
 -- a push is full exactly if its room is 0; a pop is empty exactly if no order is held
 unfoldable pub play : (operation order : ℕ) → Plain → Played
 play operation order p = pick (isPush operation) (playPush operation order p) (playPop operation p)
+
+-- an operation, played on p, gives this number and carried order and leaves q
+pub record Yields (operation order : ℕ) (p : Plain) (number carried : ℕ) (q : Plain) : Type 0 where
+  pub number-is : numberOf (play operation order p .answer) ≡ number
+  pub carried-is : carriedOf (play operation order p .answer) ≡ carried
+  pub leaves : play operation order p .plain ≡ q

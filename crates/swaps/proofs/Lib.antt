@@ -1,0 +1,3 @@
+pub mod Stale
+pub mod Facts
+pub mod Claims

@@ -1,0 +1,18 @@
+-- A word that was read at a place and is remembered is fresh while it still stands there. Once it is stale its counter has been
+-- passed, so that it stays stale for ever.
+use Prim.Native.Nat.{ℕ, _<_}
+use mathlib.Core.Path.{_≡_}
+use mathlib.Core.List.{List}
+use lib.ListN.{getD}
+use Rattle.word.specs.Word.{counterOf}
+
+-- a word that was read at a place where `now` stands
+pub data Remembered (word now : ℕ) : Type 0 where
+  fresh : now ≡ word → Remembered word now
+  stale : counterOf word < counterOf now → Remembered word now
+
+abbrev pub Fresh : (words : List ℕ) (place word : ℕ) → Type 0
+Fresh words place word = getD words place 0 ≡ word
+
+abbrev pub Known : (words : List ℕ) (place word : ℕ) → Type 0
+Known words place word = Remembered word (getD words place 0)
