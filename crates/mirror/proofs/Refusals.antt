@@ -1,7 +1,7 @@
 -- A left step and its mirror are refused alike.
 use Prim.Native.Nat.{ℕ, zero, suc, _+_, _<_}
 use mathlib.Core.Path.{_≡_, refl}
-use mathlib.Core.Bool.{Bool, true, false, _&&_}
+use mathlib.Core.Bool.{Bool, true, false, _&&_, and-false}
 use lib.Dec.{eqb, leb}
 use borrow.Author.Tests.{eqb-true, eqb-false, eq-eqb, ne-eqb, leb-true, leb-false, le-leb, lt-leb}
 use native.Mathlib.Omega.{arith}
@@ -36,10 +36,6 @@ by-stage P p0 p1 p2 p3 p4 p5 past (suc (suc (suc zero))) = p3
 by-stage P p0 p1 p2 p3 p4 p5 past (suc (suc (suc (suc zero)))) = p4
 by-stage P p0 p1 p2 p3 p4 p5 past (suc (suc (suc (suc (suc zero))))) = p5
 by-stage P p0 p1 p2 p3 p4 p5 past (suc (suc (suc (suc (suc (suc stage)))))) = past _ (omega arith)
-
-and-false : (t : Bool) → t && false ≡ false
-and-false true = refl
-and-false false = refl
 
 -- no record is valid past stage 5
 pub past-is-invalid : (max : ℕ) (r : Record) → 5 < r .stage → validOf max r ≡ false

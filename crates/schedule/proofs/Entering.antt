@@ -1,7 +1,7 @@
 -- One entry on the run's two arrays of 16 is that entry on the state of base 3's run.
 use Prim.Native.Nat.{ℕ, _≤_, _<_}
 use mathlib.Core.Path.{_≡_, refl, sym, _∙_, ap, subst}
-use mathlib.Core.Bool.{Bool, true, false, not, _&&_}
+use mathlib.Core.Bool.{Bool, true, false, not, _&&_, and-false}
 use mathlib.Core.List.{List}
 use lib.ListN.{length, getD, set, take}
 use lib.Seq.{length-take-le, getD-take, take-set-lt, set-getD}
@@ -58,10 +58,6 @@ pick-set : (test : Bool) (l : List ℕ) (i a : ℕ) → pick test (set l i a) l 
 pick-set true l i a = refl
 pick-set false l i a = sym (set-getD l i 0)
 
-and-false : (a b : Bool) → a && false && b ≡ false
-and-false true b = refl
-and-false false b = refl
-
 module _ (parties : ℕ) (strip : List ℕ) (table : List Record) (looks : List ℕ) (entry : ℕ) (call : Call)
     (few : parties ≤ 16) (table-16 : length table ≡ 16) (looks-16 : length looks ≡ 16) where
   same-gate : gate (length strip) (length (take parties table)) call ≡ gate (length strip) parties call
@@ -102,7 +98,7 @@ module _ (parties : ℕ) (strip : List ℕ) (table : List Record) (looks : List 
       let no-going = ne-eqb (gate (length strip) parties call) 0 barred in
       record {
         line = rw (calls, same-gate, f .number, f .carried, f .effect, no-full, no-empty);
-        state = rw (calls, same-gate, promise .words ∙ away .1, f .rec, f .look, no-going, and-false, and-false, set-getD, set-getD);
+        state = rw (calls, same-gate, promise .words ∙ away .1, f .rec, f .look, no-going, and-false, set-getD, set-getD);
       }
 
   pub enters : (got : Turn) (left : List ℕ)
