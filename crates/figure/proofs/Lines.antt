@@ -12,7 +12,7 @@ use Rattle.word.specs.Word.{valueOf, counterOf, raisedTo, LN, RN}
 use Rattle.word.specs.Swap.{swapOf, wordsAfter}
 use Rattle.word.proofs.Laws.{SwapGoes, swap-goes}
 use Rattle.party.specs.Operation.{isRight}
-use Rattle.party.specs.Record.{again}
+use Rattle.party.specs.Record.{again, atStage, withOperation}
 use Rattle.party.specs.Valid.{isIdle}
 use Rattle.party.specs.Answer.{isRefusal, numberOf, goingOn}
 use Rattle.party.specs.declared.Record.{Record}
@@ -69,12 +69,12 @@ abbrev StepIsLine : List ℕ → (hint : ℕ) → Record → Type 0
 StepIsLine strip hint r =
     stepRefusal (length strip) r hint ≡ 0 → isRefusal (numberOf (stepOf strip r hint .answer)) ≡ false → IsTheLine strip r hint
 
-module _ (strip : List ℕ) (hint k v first second : ℕ) where
+module _ (strip : List ℕ) (hint : ℕ) (r : Record) where
   abbrev push : (stage : ℕ) → Record
-  push stage = record { operation = 0; stage = stage; k = k; v = v; first = first; second = second }
+  push stage = withOperation 0 (atStage stage r)
 
   abbrev pop : (stage : ℕ) → Record
-  pop stage = record { operation = 1; stage = stage; k = k; v = v; first = first; second = second }
+  pop stage = withOperation 1 (atStage stage r)
 
   stage-1-is-RH2 : StepIsLine strip hint (push 1)
   unfolding stepOf stepLeaves accessOf
@@ -89,87 +89,84 @@ module _ (strip : List ℕ) (hint k v first second : ℕ) where
   stage-2-is-RH3 : StepIsLine strip hint (push 2)
   unfolding stepOf stepLeaves accessOf judgeOf
   stage-2-is-RH3 passes goes =
-      rw (passes, element-at strip k)
+      rw (passes, element-at strip (r .k))
       (record {
         array = refl;
         next =
-            judged (eqb (valueOf first) RN) (eqb (valueOf (getD strip k 0)) RN)
-            (either (eqb k (maxOf (length strip) + 1)) (Reaches.filled refl refl) (Reaches.goes-on refl (λ h. refl)))
+            judged (eqb (valueOf (r .first)) RN) (eqb (valueOf (getD strip (r .k) 0)) RN)
+            (either (eqb (r .k) (maxOf (length strip) + 1)) (Reaches.filled refl refl) (Reaches.goes-on refl (λ h. refl)))
             (Reaches.goes-on refl (λ h. refl));
       })
 
   stage-2-is-RP3 : StepIsLine strip hint (pop 2)
   unfolding stepOf stepLeaves accessOf judgeOf
   stage-2-is-RP3 passes goes =
-      rw (passes, element-at strip k)
+      rw (passes, element-at strip (r .k))
       (record {
         array = refl;
         next =
-            judged (eqb (valueOf first) RN) (eqb (valueOf (getD strip k 0)) RN)
-            (either (eqb (valueOf first) LN) (Reaches.goes-on refl (λ h. refl)) (Reaches.goes-on refl (λ h. refl)))
+            judged (eqb (valueOf (r .first)) RN) (eqb (valueOf (getD strip (r .k) 0)) RN)
+            (either (eqb (valueOf (r .first)) LN) (Reaches.goes-on refl (λ h. refl)) (Reaches.goes-on refl (λ h. refl)))
             (Reaches.goes-on refl (λ h. refl));
       })
 
   stage-3-is-RP5 : StepIsLine strip hint (pop 3)
   unfolding stepOf stepLeaves accessOf recheckOf
   stage-3-is-RP5 passes goes =
-      let met = getD strip (k - 1) 0 in
-      rw (passes, element-at strip (k - 1), same-is-whole met first)
-      (record { array = refl; next = either (eqb met first) (Reaches.emptied refl refl) (Reaches.goes-on refl (λ h. refl)) })
+      let met = getD strip (r .k - 1) 0 in
+      rw (passes, element-at strip (r .k - 1), same-is-whole met (r .first))
+      (record { array = refl; next = either (eqb met (r .first)) (Reaches.emptied refl refl) (Reaches.goes-on refl (λ h. refl)) })
 
   stage-4-is-RH6 : StepIsLine strip hint (push 4)
   unfolding stepOf stepLeaves accessOf
   stage-4-is-RH6 passes goes =
       rw passes
-      (swapped-is-CAS strip (k - 1) first (valueOf first) (push 4) Onward _ _ (omega arith) (rw passes at goes)
+      (swapped-is-CAS strip (r .k - 1) (r .first) (valueOf (r .first)) (push 4) Onward _ _ (omega arith) (rw passes at goes)
       (Reaches.goes-on refl (λ h. refl)) (Reaches.goes-on refl (λ h. refl)))
 
   stage-4-is-RP7 : StepIsLine strip hint (pop 4)
   unfolding stepOf stepLeaves accessOf
   stage-4-is-RP7 passes goes =
       rw passes
-      (swapped-is-CAS strip k second RN (pop 4) Onward _ _ (omega arith) (rw passes at goes)
+      (swapped-is-CAS strip (r .k) (r .second) RN (pop 4) Onward _ _ (omega arith) (rw passes at goes)
       (Reaches.goes-on refl (λ h. refl)) (Reaches.goes-on refl (λ h. refl)))
 
-  stage-5-is-RH7 : v < 4294967296 → StepIsLine strip hint (push 5)
+  stage-5-is-RH7 : r .v < 4294967296 → StepIsLine strip hint (push 5)
   unfolding stepOf stepLeaves accessOf
   stage-5-is-RH7 fits passes goes =
       rw passes
-      (swapped-is-CAS strip k second v (push 5) Push _ _ fits (rw passes at goes)
+      (swapped-is-CAS strip (r .k) (r .second) (r .v) (push 5) Push _ _ fits (rw passes at goes)
       (Reaches.pushed refl refl) (Reaches.goes-on refl (λ h. refl)))
 
   stage-5-is-RP8 : StepIsLine strip hint (pop 5)
   unfolding stepOf stepLeaves accessOf
   stage-5-is-RP8 passes goes =
       rw passes
-      (swapped-is-CAS strip (k - 1) first RN (pop 5) Pop _ _ (omega arith) (rw passes at goes)
-      (Reaches.popped (valueOf first) refl refl) (Reaches.goes-on refl (λ h. refl)))
+      (swapped-is-CAS strip (r .k - 1) (r .first) RN (pop 5) Pop _ _ (omega arith) (rw passes at goes)
+      (Reaches.popped (valueOf (r .first)) refl refl) (Reaches.goes-on refl (λ h. refl)))
 
 -- a valid busy record of the right side has one of these stages
 module _ (strip : List ℕ) (r : Record) (hint : ℕ) (fits : r .v < 4294967296) where
   -- the record is the one with its numbers
   numbered : (operation stage : ℕ) → r .operation ≡ operation → r .stage ≡ stage
-      → StepIsLine strip hint (record { operation = operation; stage = stage; k = r .k; v = r .v; first = r .first; second = r .second })
-      → StepIsLine strip hint r
-  numbered operation stage o s =
-      subst (StepIsLine strip hint)
-      (λ i. record { operation = sym o i; stage = sym s i; k = r .k; v = r .v; first = r .first; second = r .second })
+      → StepIsLine strip hint (withOperation operation (atStage stage r)) → StepIsLine strip hint r
+  numbered operation stage o s = subst (StepIsLine strip hint) (λ i. withOperation (sym o i) (atStage (sym s i) r))
 
   push-is-its-line : r .operation ≡ 0 → isIdle r ≡ false → ValidAt (maxOf (length strip)) r → StepIsLine strip hint r
   push-is-its-line o busy (ValidAt.at0 s f) = absurd (eqb-false (r .stage) 0 busy s)
-  push-is-its-line o busy (ValidAt.at1 s f read) = numbered 0 1 o s (stage-1-is-RH2 strip hint (r .k) (r .v) (r .first) (r .second))
-  push-is-its-line o busy (ValidAt.at2 s f k none) = numbered 0 2 o s (stage-2-is-RH3 strip hint (r .k) (r .v) (r .first) (r .second))
+  push-is-its-line o busy (ValidAt.at1 s f read) = numbered 0 1 o s (stage-1-is-RH2 strip hint r)
+  push-is-its-line o busy (ValidAt.at2 s f k none) = numbered 0 2 o s (stage-2-is-RH3 strip hint r)
   push-is-its-line o busy (ValidAt.at3 s f k pop) = absurd (true≢false (rw o at pop))
-  push-is-its-line o busy (ValidAt.at4 s f k) = numbered 0 4 o s (stage-4-is-RH6 strip hint (r .k) (r .v) (r .first) (r .second))
-  push-is-its-line o busy (ValidAt.at5 s f k) = numbered 0 5 o s (stage-5-is-RH7 strip hint (r .k) (r .v) (r .first) (r .second) fits)
+  push-is-its-line o busy (ValidAt.at4 s f k) = numbered 0 4 o s (stage-4-is-RH6 strip hint r)
+  push-is-its-line o busy (ValidAt.at5 s f k) = numbered 0 5 o s (stage-5-is-RH7 strip hint r fits)
 
   pop-is-its-line : r .operation ≡ 1 → isIdle r ≡ false → ValidAt (maxOf (length strip)) r → StepIsLine strip hint r
   pop-is-its-line o busy (ValidAt.at0 s f) = absurd (eqb-false (r .stage) 0 busy s)
-  pop-is-its-line o busy (ValidAt.at1 s f read) = numbered 1 1 o s (stage-1-is-RP2 strip hint (r .k) (r .v) (r .first) (r .second))
-  pop-is-its-line o busy (ValidAt.at2 s f k none) = numbered 1 2 o s (stage-2-is-RP3 strip hint (r .k) (r .v) (r .first) (r .second))
-  pop-is-its-line o busy (ValidAt.at3 s f k pop) = numbered 1 3 o s (stage-3-is-RP5 strip hint (r .k) (r .v) (r .first) (r .second))
-  pop-is-its-line o busy (ValidAt.at4 s f k) = numbered 1 4 o s (stage-4-is-RP7 strip hint (r .k) (r .v) (r .first) (r .second))
-  pop-is-its-line o busy (ValidAt.at5 s f k) = numbered 1 5 o s (stage-5-is-RP8 strip hint (r .k) (r .v) (r .first) (r .second))
+  pop-is-its-line o busy (ValidAt.at1 s f read) = numbered 1 1 o s (stage-1-is-RP2 strip hint r)
+  pop-is-its-line o busy (ValidAt.at2 s f k none) = numbered 1 2 o s (stage-2-is-RP3 strip hint r)
+  pop-is-its-line o busy (ValidAt.at3 s f k pop) = numbered 1 3 o s (stage-3-is-RP5 strip hint r)
+  pop-is-its-line o busy (ValidAt.at4 s f k) = numbered 1 4 o s (stage-4-is-RP7 strip hint r)
+  pop-is-its-line o busy (ValidAt.at5 s f k) = numbered 1 5 o s (stage-5-is-RP8 strip hint r)
 
 -- Demand 2: a step of the right side that is not refused is the line of figure 1 that its record stands before.
 -- An order is 32 bits wide.

@@ -12,7 +12,7 @@ use Rattle.logic.specs.Pick.{pick}
 use Rattle.logic.proofs.Bools.{both}
 use Rattle.word.specs.Word.{valueOf, counterOf, raisedTo, lastCounter, LN, RN}
 use Rattle.word.specs.Swap.{swapOf, wordsAfter}
-use Rattle.party.specs.Record.{again}
+use Rattle.party.specs.Record.{again, atStage, withOperation}
 use Rattle.party.specs.Valid.{placeFits}
 use Rattle.party.specs.Answer.{refused}
 use Rattle.party.specs.declared.Record.{Record}
@@ -107,15 +107,15 @@ swap-mirrors strip i j from to to′ r r′ then across raised won same lost =
     go true false = record { answer = won .answer; rec = won .rec; words = mirror-set strip i j (raisedTo from to) across }
     go false ended = record { answer = refl; rec = lost; words = refl }
 
-module _ (strip : List ℕ) (hint k v first second : ℕ) where
+module _ (strip : List ℕ) (hint : ℕ) (r : Record) where
   abbrev max : ℕ
   max = maxOf (length strip)
 
   abbrev push : (stage : ℕ) → Record
-  push stage = record { operation = 2; stage = stage; k = k; v = v; first = first; second = second }
+  push stage = withOperation 2 (atStage stage r)
 
   abbrev pop : (stage : ℕ) → Record
-  pop stage = record { operation = 3; stage = stage; k = k; v = v; first = first; second = second }
+  pop stage = withOperation 3 (atStage stage r)
 
   push-1 : hint + 2 ≤ length strip → AccessMirrors strip (push 1) hint
   unfolding accessOf
@@ -125,71 +125,74 @@ module _ (strip : List ℕ) (hint k v first second : ℕ) where
   unfolding accessOf
   pop-1 inside = rw (mirror-at strip (hint + 1) (mirrorPlace max hint - 1) (omega arith)) mirrored
 
-  module _ (inside : k + 2 ≤ length strip) where
-    met : getD (mirrorStrip strip) (mirrorPlace max k) 0 ≡ mirrorWord (getD strip k 0)
-    met = mirror-at strip k (mirrorPlace max k) (omega arith)
+  module _ (inside : r .k + 2 ≤ length strip) where
+    met : getD (mirrorStrip strip) (mirrorPlace max (r .k)) 0 ≡ mirrorWord (getD strip (r .k) 0)
+    met = mirror-at strip (r .k) (mirrorPlace max (r .k)) (omega arith)
 
     push-2 : AccessMirrors strip (push 2) hint
     unfolding accessOf judgeOf
     push-2 =
-        let word = getD strip k 0 in
-        rw (length-mirror strip, met, mirror-is-RN first, mirror-is-RN word, wall-mirrors max k)
-        (either (eqb (valueOf first) LN || not (eqb (valueOf word) LN)) mirrored (either (eqb k 0) mirrored mirrored))
+        let word = getD strip (r .k) 0 in
+        rw (length-mirror strip, met, mirror-is-RN (r .first), mirror-is-RN word, wall-mirrors max (r .k))
+        (either (eqb (valueOf (r .first)) LN || not (eqb (valueOf word) LN)) mirrored (either (eqb (r .k) 0) mirrored mirrored))
 
     pop-2 : AccessMirrors strip (pop 2) hint
     unfolding accessOf judgeOf
     pop-2 =
-        let word = getD strip k 0 in
-        rw (met, mirror-is-RN first, mirror-is-LN first, mirror-is-RN word)
-        (either (eqb (valueOf first) LN || not (eqb (valueOf word) LN)) mirrored (either (eqb (valueOf first) RN) mirrored mirrored))
+        let word = getD strip (r .k) 0 in
+        rw (met, mirror-is-RN (r .first), mirror-is-LN (r .first), mirror-is-RN word)
+        (either (eqb (valueOf (r .first)) LN || not (eqb (valueOf word) LN)) mirrored
+        (either (eqb (valueOf (r .first)) RN) mirrored mirrored))
 
     pop-3 : AccessMirrors strip (pop 3) hint
     unfolding accessOf recheckOf
     pop-3 =
-        let word = getD strip (k + 1) 0 in
-        rw (mirror-at strip (k + 1) (mirrorPlace max k - 1) (omega arith), mirror-same word first)
-        (either (eqb word first) mirrored mirrored)
+        let word = getD strip (r .k + 1) 0 in
+        rw (mirror-at strip (r .k + 1) (mirrorPlace max (r .k) - 1) (omega arith), mirror-same word (r .first))
+        (either (eqb word (r .first)) mirrored mirrored)
 
     push-4 : AccessMirrors strip (push 4) hint
     unfolding accessOf
     push-4 =
-        swap-mirrors strip (k + 1) (mirrorPlace max k - 1) first (valueOf first) (valueOf (mirrorWord first)) (push 4) (mirrorRecord max (push 4))
-        Onward (omega arith) (ap (raisedTo (mirrorWord first)) (mirror-value first) ∙ mirror-raised first (valueOf first) (omega arith))
-        mirrored refl refl
+        let word = r .first in
+        swap-mirrors strip (r .k + 1) (mirrorPlace max (r .k) - 1) word (valueOf word) (valueOf (mirrorWord word)) (push 4)
+        (mirrorRecord max (push 4)) Onward (omega arith)
+        (ap (raisedTo (mirrorWord word)) (mirror-value word) ∙ mirror-raised word (valueOf word) (omega arith)) mirrored refl refl
 
     pop-4 : AccessMirrors strip (pop 4) hint
     unfolding accessOf
     pop-4 =
-        swap-mirrors strip k (mirrorPlace max k) second LN RN (pop 4) (mirrorRecord max (pop 4)) Onward (omega arith)
-        (mirror-raised second LN (omega arith)) mirrored refl refl
+        swap-mirrors strip (r .k) (mirrorPlace max (r .k)) (r .second) LN RN (pop 4) (mirrorRecord max (pop 4)) Onward (omega arith)
+        (mirror-raised (r .second) LN (omega arith)) mirrored refl refl
 
-    push-5 : 3 ≤ v → v < 4294967296 → AccessMirrors strip (push 5) hint
+    push-5 : 3 ≤ r .v → r .v < 4294967296 → AccessMirrors strip (push 5) hint
     unfolding accessOf
     push-5 order below =
-        swap-mirrors strip k (mirrorPlace max k) second v v (push 5) (mirrorRecord max (push 5)) Push (omega arith)
-        (ap (raisedTo (mirrorWord second)) (sym (order-stays v order)) ∙ mirror-raised second v below) mirrored refl refl
+        swap-mirrors strip (r .k) (mirrorPlace max (r .k)) (r .second) (r .v) (r .v) (push 5) (mirrorRecord max (push 5)) Push (omega arith)
+        (ap (raisedTo (mirrorWord (r .second))) (sym (order-stays (r .v) order)) ∙ mirror-raised (r .second) (r .v) below) mirrored refl refl
 
     pop-5 : AccessMirrors strip (pop 5) hint
     unfolding accessOf
     pop-5 =
-        swap-mirrors strip (k + 1) (mirrorPlace max k - 1) first LN RN (pop 5) (mirrorRecord max (pop 5)) Pop (omega arith)
-        (mirror-raised first LN (omega arith)) (record { answer = ap Popped (mirror-value first); rec = refl; words = refl }) refl refl
+        swap-mirrors strip (r .k + 1) (mirrorPlace max (r .k) - 1) (r .first) LN RN (pop 5) (mirrorRecord max (pop 5)) Pop (omega arith)
+        (mirror-raised (r .first) LN (omega arith))
+        (record { answer = ap Popped (mirror-value (r .first)); rec = refl; words = refl }) refl refl
 
   -- a place in range on the left, and its neighbour, lie inside the strip
   within : (place : ℕ) → stripFits (length strip) ≡ true → leb place max ≡ true → place + 2 ≤ length strip
   within place fits low = omega (arith, strip-within (length strip) fits, leb-true place max low)
 
-  push-access : v < 4294967296 → (stage : ℕ) → Steppable (length strip) (push stage) hint → AccessMirrors strip (push stage) hint
+  push-access : r .v < 4294967296 → (stage : ℕ) → Steppable (length strip) (push stage) hint → AccessMirrors strip (push stage) hint
   push-access below =
       by-stage (λ (stage : ℕ). Steppable (length strip) (push stage) hint → AccessMirrors strip (push stage) hint)
       (λ clear. absurd (true≢false (clear .busy)))
       (λ clear. push-1 (within hint (clear .strip-fits) (clear .aimed-fits)))
-      (λ clear. push-2 (within k (clear .strip-fits) (clear .aimed-fits)))
+      (λ clear. push-2 (within (r .k) (clear .strip-fits) (clear .aimed-fits)))
       (λ clear. let fits = stage-3-fits max (push 3) (clear .valid) refl .1 in absurd (true≢false (sym (both (placeFits max (push 3)) false fits .1))))
-      (λ clear. push-4 (within k (clear .strip-fits) (clear .aimed-fits)))
+      (λ clear. push-4 (within (r .k) (clear .strip-fits) (clear .aimed-fits)))
       (λ clear.
-      let order = leb-true 3 v (stage-5-fits max (push 5) (clear .valid) refl .0) in
-      push-5 (within k (clear .strip-fits) (clear .aimed-fits)) order below)
+      let order = leb-true 3 (r .v) (stage-5-fits max (push 5) (clear .valid) refl .0) in
+      push-5 (within (r .k) (clear .strip-fits) (clear .aimed-fits)) order below)
       (λ stage past clear. absurd (true≢false (sym (clear .valid) ∙ past-is-invalid max (push stage) past)))
 
   pop-access : (stage : ℕ) → Steppable (length strip) (pop stage) hint → AccessMirrors strip (pop stage) hint
@@ -197,18 +200,18 @@ module _ (strip : List ℕ) (hint k v first second : ℕ) where
       by-stage (λ (stage : ℕ). Steppable (length strip) (pop stage) hint → AccessMirrors strip (pop stage) hint)
       (λ clear. absurd (true≢false (clear .busy)))
       (λ clear. pop-1 (within hint (clear .strip-fits) (clear .aimed-fits)))
-      (λ clear. pop-2 (within k (clear .strip-fits) (clear .aimed-fits)))
-      (λ clear. pop-3 (within k (clear .strip-fits) (clear .aimed-fits)))
-      (λ clear. pop-4 (within k (clear .strip-fits) (clear .aimed-fits)))
-      (λ clear. pop-5 (within k (clear .strip-fits) (clear .aimed-fits)))
+      (λ clear. pop-2 (within (r .k) (clear .strip-fits) (clear .aimed-fits)))
+      (λ clear. pop-3 (within (r .k) (clear .strip-fits) (clear .aimed-fits)))
+      (λ clear. pop-4 (within (r .k) (clear .strip-fits) (clear .aimed-fits)))
+      (λ clear. pop-5 (within (r .k) (clear .strip-fits) (clear .aimed-fits)))
       (λ stage past clear. absurd (true≢false (sym (clear .valid) ∙ past-is-invalid max (pop stage) past)))
 
-  push-mirrors : v < 4294967296 → (stage : ℕ) → StepMirrors strip (push stage) hint
+  push-mirrors : r .v < 4294967296 → (stage : ℕ) → StepMirrors strip (push stage) hint
   push-mirrors below stage =
-      step-mirrors strip (push stage) hint (push-refused-alike (length strip) hint k v first second stage) (push-access below stage)
+      step-mirrors strip (push stage) hint (push-refused-alike (length strip) hint r stage) (push-access below stage)
 
   pop-mirrors : (stage : ℕ) → StepMirrors strip (pop stage) hint
-  pop-mirrors stage = step-mirrors strip (pop stage) hint (pop-refused-alike (length strip) hint k v first second stage) (pop-access stage)
+  pop-mirrors stage = step-mirrors strip (pop stage) hint (pop-refused-alike (length strip) hint r stage) (pop-access stage)
 
 -- A left step is the mirror of the right step, refused or not, on any strip and with any hint. An order is 32 bits wide.
 pub a-left-step-is-the-mirrored-right-step : (strip : List ℕ) (r : Record) (hint : ℕ)
@@ -216,13 +219,9 @@ pub a-left-step-is-the-mirrored-right-step : (strip : List ℕ) (r : Record) (hi
 a-left-step-is-the-mirrored-right-step strip r hint left below = go left
   where
     -- the record is the one with its operation's number
-    numbered : (operation : ℕ) → r .operation ≡ operation
-        → StepMirrors strip (record { operation = operation; stage = r .stage; k = r .k; v = r .v; first = r .first; second = r .second }) hint
-        → StepMirrors strip r hint
-    numbered operation o =
-        subst (λ (x : Record). StepMirrors strip x hint)
-        (λ i. record { operation = sym o i; stage = r .stage; k = r .k; v = r .v; first = r .first; second = r .second })
+    numbered : (operation : ℕ) → r .operation ≡ operation → StepMirrors strip (withOperation operation r) hint → StepMirrors strip r hint
+    numbered operation o = subst (λ (x : Record). StepMirrors strip x hint) (λ i. withOperation (sym o i) r)
 
     go : (r .operation ≡ 2) ⊎ (r .operation ≡ 3) → StepMirrors strip r hint
-    go (inl o) = numbered 2 o (push-mirrors strip hint (r .k) (r .v) (r .first) (r .second) below (r .stage))
-    go (inr o) = numbered 3 o (pop-mirrors strip hint (r .k) (r .v) (r .first) (r .second) (r .stage))
+    go (inl o) = numbered 2 o (push-mirrors strip hint r below (r .stage))
+    go (inr o) = numbered 3 o (pop-mirrors strip hint r (r .stage))

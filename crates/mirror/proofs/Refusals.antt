@@ -5,6 +5,7 @@ use mathlib.Core.Bool.{Bool, true, false, _&&_, and-false}
 use lib.Dec.{eqb, leb}
 use borrow.Author.Tests.{eqb-true, eqb-false, eq-eqb, ne-eqb, leb-true, leb-false, le-leb, lt-leb}
 use native.Mathlib.Omega.{arith}
+use Rattle.party.specs.Record.{atStage, withOperation}
 use Rattle.party.specs.Valid.{operationFits, validOf}
 use Rattle.party.specs.declared.Record.{Record}
 use Rattle.step.specs.Step.{maxOf, stepOwn, stepRefusal}
@@ -47,15 +48,9 @@ past-is-invalid max r past =
     isnt : (n : ℕ) → n < r .stage → eqb (r .stage) n ≡ false
     isnt n below = ne-eqb (r .stage) n (λ (e : r .stage ≡ n). omega arith)
 
-module _ (words hint k v first second : ℕ) where
+module _ (words hint : ℕ) where
   abbrev RefusedAlike : Record → Type 0
   RefusedAlike r = stepRefusal words (mirrorRecord (maxOf words) r) (mirrorPlace (maxOf words) hint) ≡ stepRefusal words r hint
-
-  abbrev push : (stage : ℕ) → Record
-  push stage = record { operation = 2; stage = stage; k = k; v = v; first = first; second = second }
-
-  abbrev pop : (stage : ℕ) → Record
-  pop stage = record { operation = 3; stage = stage; k = k; v = v; first = first; second = second }
 
   past-refused-alike : (r : Record) → 5 < r .stage → RefusedAlike r
   unfolding stepRefusal stepOwn
@@ -63,17 +58,26 @@ module _ (words hint k v first second : ℕ) where
       let max = maxOf words in
       rw (past-is-invalid max r past, past-is-invalid max (mirrorRecord max r) past) refl
 
-  pub push-refused-alike : (stage : ℕ) → RefusedAlike (push stage)
-  unfolding stepRefusal stepOwn validOf
-  push-refused-alike =
-      let max = maxOf words in
-      by-stage (λ (stage : ℕ). RefusedAlike (push stage)) refl (rw (range-mirrors max hint)) (rw (range-mirrors max k))
-      (rw (range-mirrors max k)) (rw (range-mirrors max k, wall-mirrors max k)) (rw (range-mirrors max k, wall-mirrors max k))
-      (λ stage. past-refused-alike (push stage))
+  module _ (r : Record) where
+    abbrev push : (stage : ℕ) → Record
+    push stage = withOperation 2 (atStage stage r)
 
-  pub pop-refused-alike : (stage : ℕ) → RefusedAlike (pop stage)
-  unfolding stepRefusal stepOwn validOf
-  pop-refused-alike =
-      let max = maxOf words in
-      by-stage (λ (stage : ℕ). RefusedAlike (pop stage)) refl (rw (range-mirrors max hint)) (rw (range-mirrors max k))
-      (rw (range-mirrors max k)) (rw (range-mirrors max k)) (rw (range-mirrors max k)) (λ stage. past-refused-alike (pop stage))
+    abbrev pop : (stage : ℕ) → Record
+    pop stage = withOperation 3 (atStage stage r)
+
+    pub push-refused-alike : (stage : ℕ) → RefusedAlike (push stage)
+    unfolding stepRefusal stepOwn validOf
+    push-refused-alike =
+        let max = maxOf words in
+        let range = range-mirrors max (r .k) in
+        let wall = wall-mirrors max (r .k) in
+        by-stage (λ (stage : ℕ). RefusedAlike (push stage)) refl (rw (range-mirrors max hint)) (rw range) (rw range)
+        (rw (range, wall)) (rw (range, wall)) (λ stage. past-refused-alike (push stage))
+
+    pub pop-refused-alike : (stage : ℕ) → RefusedAlike (pop stage)
+    unfolding stepRefusal stepOwn validOf
+    pop-refused-alike =
+        let max = maxOf words in
+        let range = range-mirrors max (r .k) in
+        by-stage (λ (stage : ℕ). RefusedAlike (pop stage)) refl (rw (range-mirrors max hint)) (rw range) (rw range)
+        (rw range) (rw range) (λ stage. past-refused-alike (pop stage))

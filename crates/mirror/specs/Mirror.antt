@@ -6,6 +6,7 @@ use lib.ListN.{length}
 use lib.Dec.{eqb, leb, ltb}
 use Rattle.logic.specs.Pick.{pick}
 use Rattle.word.specs.Word.{valueOf, counterOf, wordOf, LN, RN}
+use Rattle.party.specs.Record.{withOperation, withPlace, withFirst, withSecond}
 use Rattle.party.specs.declared.Record.{Record}
 use Rattle.party.specs.declared.Answer.{Answer}
 use Rattle.party.specs.declared.Answer.the-variants.{GoesOn, Pushed, Popped, Full, Empty, Refused}
@@ -35,14 +36,10 @@ mirrorOperation operation = pick (ltb operation 2) (operation + 2) (pick (ltb op
 -- word from 3. Before that they are 0 and stay 0.
 abbrev pub mirrorRecord : (max : ℕ) → Record → Record
 mirrorRecord max r =
-    record {
-      operation = pick (leb 1 (r .stage)) (mirrorOperation (r .operation)) (r .operation);
-      stage = r .stage;
-      k = pick (leb 2 (r .stage)) (mirrorPlace max (r .k)) (r .k);
-      v = r .v;
-      first = pick (leb 2 (r .stage)) (mirrorWord (r .first)) (r .first);
-      second = pick (leb 3 (r .stage)) (mirrorWord (r .second)) (r .second);
-    }
+    withOperation (pick (leb 1 (r .stage)) (mirrorOperation (r .operation)) (r .operation))
+    (withPlace (pick (leb 2 (r .stage)) (mirrorPlace max (r .k)) (r .k))
+    (withFirst (pick (leb 2 (r .stage)) (mirrorWord (r .first)) (r .first))
+    (withSecond (pick (leb 3 (r .stage)) (mirrorWord (r .second)) (r .second)) r)))
 
 abbrev pub mirrorAnswer : Answer → Answer
 mirrorAnswer GoesOn = GoesOn

@@ -18,6 +18,11 @@ abbrev pub atStage : ℕ → Record → Record
 atStage stage r =
     record { operation = r .operation; stage = stage; k = r .k; v = r .v; first = r .first; second = r .second }
 
+-- of another operation, all else as it was: for the mirror and the figure, no call makes it
+abbrev pub withOperation : ℕ → Record → Record
+withOperation operation r =
+    record { operation = operation; stage = r .stage; k = r .k; v = r .v; first = r .first; second = r .second }
+
 abbrev pub withPlace : ℕ → Record → Record
 withPlace k r =
     record { operation = r .operation; stage = r .stage; k = k; v = r .v; first = r .first; second = r .second }
