@@ -9,6 +9,7 @@ use prog.Wp.{Heap}
 use ghost.Atoms.{Atoms}
 use types.Kit.{Given}
 use denote.Laws.{Is}
+use denote.Memory.{mem}
 use denote.Struct.Laws as LL
 use Rattle.party.specs.declared.Record.{Record}
 use Rattle.party.proofs.Record as R
@@ -19,6 +20,10 @@ use Rattle.table.proofs.Said as S
 use Rattle.table.proofs.Said.Laws as S′
 use Rattle.table.proofs.Told as T
 use Rattle.table.proofs.Told.Laws as T′
+
+-- how many bytes a record takes in memory, the distance of a table's records
+abbrev pub recordSize : ℕ
+recordSize = mem R.the-row .size
 
 abbrev pub machine : Record → Val
 machine = LL.val R.the-type R′.the-laws

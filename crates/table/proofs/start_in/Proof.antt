@@ -20,7 +20,7 @@ use Rattle.table.specs.Said.{toldOf}
 use Rattle.table.specs.Lent.{DoesAtMax}
 use Rattle.table.specs.declared.Said.{Said}
 use Rattle.table.proofs.Promised.{start-within, start-turned-away, start-let-through}
-use Rattle.table.proofs.Machine.{machine, IsRecord, said-of, record-of, refusal, refusal-is, record-typed, said-typed, told-typed}
+use Rattle.table.proofs.Machine.{recordSize, machine, IsRecord, said-of, record-of, refusal, refusal-is, record-typed, said-typed, told-typed}
 use Rattle.table.proofs.Said as S
 use Rattle.table.proofs.Said.Laws as S′
 use Rattle.table.proofs.Told as T
@@ -120,9 +120,9 @@ module _ {M : Type 1} (𝓤 : URA M) (H : Heap 𝓤) (A : Atoms 𝓤) (W : Given
         by ! (exits (refusal g) _ ts (refusal-is g g-fits) (start-turned-away m ts p k v g checked (some-number g refused)) refl))
         (λ passes. let within : p < length ts = start-within m ts p k v g checked (no-number g passes) in
         assigns ! (un ! (load ! (from ! (stop !)) (look ! 20 refl)) (widens p p-fits)) (from ! (stop !)) (init ! 12 refl (tt, widens p p-fits)) $
-        assigns ! (bin ! (load ! (from ! (stop !)) (look ! 12 refl)) (lit ! tt) (scaled-fits p (length ts) 24 within (room .1))) (from ! (stop !)) (store ! 8 refl (tt, scaled-fits p (length ts) 24 within (room .1))) $
+        assigns ! (bin ! (load ! (from ! (stop !)) (look ! 12 refl)) (lit ! tt) (scaled-fits p (length ts) recordSize within (room .1))) (from ! (stop !)) (store ! 8 refl (tt, scaled-fits p (length ts) recordSize within (room .1))) $
         assigns ! (bin ! (load ! (from ! (fld ! refl (stop !))) (look-in ! 22 (sub ! 0 refl (whole !)))) (load ! (from ! (stop !)) (look ! 8 refl)) tt) (from ! (stop !)) (init ! 4 refl (tt, tt)) $
-        rewrite ! 4 (λ (k : ℕ). ‵ (fat fullShare tyPtr l₁₁ 0 (vptr b k))) (sym (place-is 24 o p)) refl $
+        rewrite ! 4 (λ (k : ℕ). ‵ (fat fullShare tyPtr l₁₁ 0 (vptr b k))) (sym (place-is recordSize o p)) refl $
         move ! (28 ∷ 29 ∷ 30 ∷ []) $ opens-element ! tt R.the-type R′.the-laws ts p idle b o within (λ is.
         -- [the record's cell; the others; the open borrow; obs; auth; _13; …; _0; …], with _i at 5 + 2 · (13 − i)
         assigns ! (of-opd ! (load ! (from ! (hop ! (look ! 9 refl) (stop !))) (look-raw ! 0 refl))) (from ! (stop !)) (init ! 7 refl (record-typed 𝓤 H A W r is)) $
@@ -130,9 +130,9 @@ module _ {M : Type 1} (𝓤 : URA M) (H : Heap 𝓤) (A : Atoms 𝓤) (W : Given
         calls-at ! fm (Telling 𝓤 H A at-mem run) known-told to-told (and-then ! (load ! (from ! (stop !)) (look ! 30 refl)) (and-then ! (load ! (from ! (stop !)) (look ! 8 refl)) (and-then ! (load ! (from ! (stop !)) (look ! 24 refl)) (and-then ! (load ! (from ! (stop !)) (look ! 22 refl)) (no-more !))))) (λ w′.
         after-plain-call ! tt start-told.ended (start-told.clauses 𝓤 H A at-mem run) to-told w′ (λ t. t ≡ toldOf (startOf m r k v)) (λ t ws. id⊢ 𝓤 _) (λ t e. result-struct ! T.the-type T′.the-laws t w′ (λ is-told.
         land ! (from ! (stop !)) (init ! 15 refl (told-typed 𝓤 H A W t is-told)) $
-        assigns ! (bin ! (load ! (from ! (stop !)) (look ! 17 refl)) (lit ! tt) (scaled-fits p (length ts) 24 within (room .1))) (from ! (stop !)) (store ! 13 refl (tt, scaled-fits p (length ts) 24 within (room .1))) $
+        assigns ! (bin ! (load ! (from ! (stop !)) (look ! 17 refl)) (lit ! tt) (scaled-fits p (length ts) recordSize within (room .1))) (from ! (stop !)) (store ! 13 refl (tt, scaled-fits p (length ts) recordSize within (room .1))) $
         assigns ! (bin ! (load ! (from ! (fld ! refl (stop !))) (look-in ! 27 (sub ! 0 refl (whole !)))) (load ! (from ! (stop !)) (look ! 13 refl)) tt) (from ! (stop !)) (init ! 5 refl (tt, tt)) $
-        rewrite ! 5 (λ (k : ℕ). ‵ (fat fullShare tyPtr l₁₃ 0 (vptr b k))) (sym (place-is 24 o p)) refl $
+        rewrite ! 5 (λ (k : ℕ). ‵ (fat fullShare tyPtr l₁₃ 0 (vptr b k))) (sym (place-is recordSize o p)) refl $
         assigns ! (of-opd ! (load ! (from ! (fld ! refl (stop !))) (look-in ! 15 (sub ! 1 refl (whole !))))) (from ! (hop ! (look ! 5 refl) (stop !))) (store-raw ! 0 refl (record-typed 𝓤 H A W (t .rec) (record-of t is-told))) $
         assigns ! (of-opd ! (load ! (from ! (fld ! refl (stop !))) (look-in ! 15 (sub ! 0 refl (whole !))))) (from ! (stop !)) (init ! 31 refl (said-typed 𝓤 H A W (t .said) (said-of t is-told))) $
         closes-element ! tt R.the-type R′.the-laws R′.the-plain ts p (t .rec) (record-of t is-told) b o within $

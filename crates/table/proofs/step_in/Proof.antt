@@ -20,7 +20,7 @@ use Rattle.table.specs.Said.{toldOf}
 use Rattle.table.specs.Lent.{Does}
 use Rattle.table.specs.declared.Said.{Said}
 use Rattle.table.proofs.Promised.{step-within, step-turned-away, step-let-through}
-use Rattle.table.proofs.Machine.{machine, IsRecord, said-of, record-of, refusal, refusal-is, record-typed, said-typed, told-typed}
+use Rattle.table.proofs.Machine.{recordSize, machine, IsRecord, said-of, record-of, refusal, refusal-is, record-typed, said-typed, told-typed}
 use Rattle.table.proofs.Said as S
 use Rattle.table.proofs.Said.Laws as S′
 use Rattle.table.proofs.Told as T
@@ -132,9 +132,9 @@ module _ {M : Type 1} (𝓤 : URA M) (H : Heap 𝓤) (A : Atoms 𝓤) (W : Given
         assigns ! (un ! (load ! (from ! (stop !)) (look ! 24 refl)) (widens p p-fits)) (from ! (stop !)) (init ! 18 refl (tt, widens p p-fits)) $
         assigns ! (addr ! (from ! (fld ! refl (hop ! (look-in ! 28 (sub ! 0 refl (whole !))) (stop !))))) (from ! (stop !)) (init ! 8 refl (tt, tt)) $
         assigns ! (agg ! (and-then ! (load ! (from ! (stop !)) (look ! 8 refl)) (and-then ! (load ! (from ! (fld ! refl (stop !))) (look-in ! 28 (sub ! 1 refl (whole !)))) (no-more !)))) (from ! (stop !)) (init ! 6 refl (tt, (tt, (record { fits = room₁ .0 }, tt)))) $
-        assigns ! (bin ! (load ! (from ! (stop !)) (look ! 18 refl)) (lit ! tt) (scaled-fits p (length ts) 24 within (room .1))) (from ! (stop !)) (store ! 14 refl (tt, scaled-fits p (length ts) 24 within (room .1))) $
+        assigns ! (bin ! (load ! (from ! (stop !)) (look ! 18 refl)) (lit ! tt) (scaled-fits p (length ts) recordSize within (room .1))) (from ! (stop !)) (store ! 14 refl (tt, scaled-fits p (length ts) recordSize within (room .1))) $
         assigns ! (bin ! (load ! (from ! (fld ! refl (stop !))) (look-in ! 26 (sub ! 0 refl (whole !)))) (load ! (from ! (stop !)) (look ! 14 refl)) tt) (from ! (stop !)) (init ! 4 refl (tt, tt)) $
-        rewrite ! 4 (λ (k : ℕ). ‵ (fat fullShare tyPtr l₁₃ 0 (vptr b k))) (sym (place-is 24 o p)) refl $
+        rewrite ! 4 (λ (k : ℕ). ‵ (fat fullShare tyPtr l₁₃ 0 (vptr b k))) (sym (place-is recordSize o p)) refl $
         move ! (32 ∷ 33 ∷ 34 ∷ []) $ opens-element ! tt R.the-type R′.the-laws ts p idle b o within (λ is.
         -- [the record's cell; the others; the open borrow; obs; auth; _15; …; _0; …; the strip; its token], with _i at 5 + 2 · (15 − i)
         assigns ! (of-opd ! (load ! (from ! (hop ! (look ! 9 refl) (stop !))) (look-raw ! 0 refl))) (from ! (stop !)) (init ! 7 refl (record-typed 𝓤 H A W r is)) $
@@ -147,9 +147,9 @@ module _ {M : Type 1} (𝓤 : URA M) (H : Heap 𝓤) (A : Atoms 𝓤) (W : Given
         move ! (4 ∷ 5 ∷ 6 ∷ 7 ∷ 8 ∷ []) $
         -- [the record's cell; …; auth; the last words; …; the strip's token; …; _15; …], with _i at 9 + 2 · (15 − i)
         land ! (from ! (stop !)) (init ! 25 refl (told-typed 𝓤 H A W t is-told)) $
-        assigns ! (bin ! (load ! (from ! (stop !)) (look ! 27 refl)) (lit ! tt) (scaled-fits p (length ts) 24 within (room .1))) (from ! (stop !)) (store ! 21 refl (tt, scaled-fits p (length ts) 24 within (room .1))) $
+        assigns ! (bin ! (load ! (from ! (stop !)) (look ! 27 refl)) (lit ! tt) (scaled-fits p (length ts) recordSize within (room .1))) (from ! (stop !)) (store ! 21 refl (tt, scaled-fits p (length ts) recordSize within (room .1))) $
         assigns ! (bin ! (load ! (from ! (fld ! refl (stop !))) (look-in ! 35 (sub ! 0 refl (whole !)))) (load ! (from ! (stop !)) (look ! 21 refl)) tt) (from ! (stop !)) (init ! 9 refl (tt, tt)) $
-        rewrite ! 9 (λ (k : ℕ). ‵ (fat fullShare tyPtr l₁₅ 0 (vptr b k))) (sym (place-is 24 o p)) refl $
+        rewrite ! 9 (λ (k : ℕ). ‵ (fat fullShare tyPtr l₁₅ 0 (vptr b k))) (sym (place-is recordSize o p)) refl $
         assigns ! (of-opd ! (load ! (from ! (fld ! refl (stop !))) (look-in ! 25 (sub ! 1 refl (whole !))))) (from ! (hop ! (look ! 9 refl) (stop !))) (store-raw ! 0 refl (record-typed 𝓤 H A W (t .rec) (record-of t is-told))) $
         assigns ! (of-opd ! (load ! (from ! (fld ! refl (stop !))) (look-in ! 25 (sub ! 0 refl (whole !))))) (from ! (stop !)) (init ! 39 refl (said-typed 𝓤 H A W (t .said) (said-of t is-told))) $
         closes-element ! tt R.the-type R′.the-laws R′.the-plain ts p (t .rec) (record-of t is-told) b o within $

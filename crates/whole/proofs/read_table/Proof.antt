@@ -14,7 +14,7 @@ use Rattle.party.specs.declared.Record.{Record}
 use Rattle.party.specs.Record.{idle}
 use Rattle.party.proofs.Record as R
 use Rattle.party.proofs.Record.Laws as R′
-use Rattle.table.proofs.Machine.{record-typed}
+use Rattle.table.proofs.Machine.{recordSize, record-typed}
 use Rattle.image.specs.Spelling.{recordAt, recordsFrom}
 use Rattle.image.proofs.Records.{recordPart}
 use Rattle.whole.proofs.Filled.{recordsTo, length-read, one-more-read, all-records-read}
@@ -126,9 +126,9 @@ module _ {M : Type 1} (𝓤 : URA M) (H : Heap 𝓤) (A : Atoms 𝓤) (W : Given
           move ! (1 ∷ []) $ drop ! $ move ! (1 ∷ []) $ drop ! $
           -- [the token; the image; obs; …]
           land ! (from ! (stop !)) (init ! 7 refl (record-typed 𝓤 H A W r is)) $
-          assigns ! (bin ! (load ! (from ! (stop !)) (look ! 13 refl)) (lit ! tt) (scaled-fits (i .0) (length ts) 24 (below less) (room .1))) (from ! (stop !)) (store ! 11 refl (tt, scaled-fits (i .0) (length ts) 24 (below less) (room .1))) $
+          assigns ! (bin ! (load ! (from ! (stop !)) (look ! 13 refl)) (lit ! tt) (scaled-fits (i .0) (length ts) recordSize (below less) (room .1))) (from ! (stop !)) (store ! 11 refl (tt, scaled-fits (i .0) (length ts) recordSize (below less) (room .1))) $
           assigns ! (bin ! (load ! (from ! (fld ! refl (stop !))) (look-in ! 15 (sub ! 0 refl (whole !)))) (load ! (from ! (stop !)) (look ! 11 refl)) tt) (from ! (stop !)) (init ! 5 refl (tt, tt)) $
-          rewrite ! 5 (λ (k : ℕ). ‵ (fat fullShare tyPtr l₈ 0 (vptr b k))) (sym (place-is 24 o (i .0))) refl $
+          rewrite ! 5 (λ (k : ℕ). ‵ (fat fullShare tyPtr l₈ 0 (vptr b k))) (sym (place-is recordSize o (i .0))) refl $
           move ! (2 ∷ 3 ∷ 4 ∷ []) $ opens-element ! tt R.the-type R′.the-laws (filled (i .0)) (i .0) idle b o (within less) (λ old.
           -- [the record's cell; the others; the open borrow; obs; auth; the token; the image; _8; …], with _i at 7 + 2 · (8 − i)
           assigns ! (of-opd ! (load ! (from ! (stop !)) (look ! 9 refl))) (from ! (hop ! (look ! 7 refl) (stop !))) (store-raw ! 0 refl (record-typed 𝓤 H A W r is)) $

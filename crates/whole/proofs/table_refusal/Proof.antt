@@ -19,7 +19,7 @@ use Rattle.party.specs.Valid.{validOf}
 use Rattle.party.proofs.Record as R
 use Rattle.party.proofs.Record.Laws as R′
 use Rattle.step.specs.Step.{maxOf}
-use Rattle.table.proofs.Machine.{machine, IsRecord, record-typed}
+use Rattle.table.proofs.Machine.{recordSize, machine, IsRecord, record-typed}
 use Rattle.whole.specs.Whole.{allBelow, isValidIn}
 use Rattle.whole.proofs.Below.{foundBy, found-fits, one-more-refused}
 use Rattle.whole.proofs.writing.next_refusal as next-refusal
@@ -110,9 +110,9 @@ module _ {M : Type 1} (𝓤 : URA M) (H : Heap 𝓤) (A : Atoms 𝓤) (W : Given
           assigns ! (bin ! (load ! (from ! (stop !)) (look ! 10 refl)) (load ! (from ! (stop !)) (look ! 8 refl)) tt) (from ! (stop !)) (init ! 6 refl (tt, tt)) $
           goes-on ! (load ! (from ! (stop !)) (look ! 6 refl))
           (λ less.
-          assigns ! (bin ! (load ! (from ! (stop !)) (look ! 10 refl)) (lit ! tt) (scaled-fits (i .0) (length ts) 24 (below less) (room .1))) (from ! (stop !)) (store ! 8 refl (tt, scaled-fits (i .0) (length ts) 24 (below less) (room .1))) $
+          assigns ! (bin ! (load ! (from ! (stop !)) (look ! 10 refl)) (lit ! tt) (scaled-fits (i .0) (length ts) recordSize (below less) (room .1))) (from ! (stop !)) (store ! 8 refl (tt, scaled-fits (i .0) (length ts) recordSize (below less) (room .1))) $
           assigns ! (bin ! (load ! (from ! (fld ! refl (stop !))) (look-in ! 14 (sub ! 0 refl (whole !)))) (load ! (from ! (stop !)) (look ! 8 refl)) tt) (from ! (stop !)) (init ! 4 refl (tt, tt)) $
-          rewrite ! 4 (λ (k : ℕ). ‵ (fat fullShare tyPtr l₇ 0 (vptr b k))) (sym (place-is 24 o (i .0))) refl $
+          rewrite ! 4 (λ (k : ℕ). ‵ (fat fullShare tyPtr l₇ 0 (vptr b k))) (sym (place-is recordSize o (i .0))) refl $
           looks-element ! tt R.the-type R′.the-laws (LL.copy R.the-type R′.the-copy 𝓤 H A W) ts (i .0) idle b o (below less) (λ share is.
           -- [the record's cell; what it owns; the others; the open borrow; the table's borrow; _8; …], with _i at 5 + 2 · (8 − i)
           assigns ! (of-opd ! (load ! (from ! (hop ! (look ! 7 refl) (stop !))) (look-raw ! 0 refl))) (from ! (stop !)) (init ! 5 refl (record-typed 𝓤 H A W (at (i .0)) is)) $

@@ -17,7 +17,7 @@ use Rattle.party.specs.declared.Record.{Record}
 use Rattle.party.specs.Record.{idle}
 use Rattle.party.proofs.Record as R
 use Rattle.party.proofs.Record.Laws as R′
-use Rattle.table.proofs.Machine.{machine, IsRecord, record-typed}
+use Rattle.table.proofs.Machine.{recordSize, machine, IsRecord, record-typed}
 use Rattle.whole.specs.Whole.{partyBytes, tableBytes}
 use Rattle.whole.proofs.Laid.{laidTo, one-record-more}
 use Rattle.whole.proofs.writing.write_party as write-party
@@ -126,9 +126,9 @@ module _ {M : Type 1} (𝓤 : URA M) (H : Heap 𝓤) (A : Atoms 𝓤) (W : Given
           (λ less.
           assigns ! (addr ! (from ! (fld ! refl (hop ! (look-in ! 24 (sub ! 0 refl (whole !))) (stop !))))) (from ! (stop !)) (init ! 10 refl (tt, tt)) $
           assigns ! (agg ! (and-then ! (load ! (from ! (stop !)) (look ! 10 refl)) (and-then ! (load ! (from ! (fld ! refl (stop !))) (look-in ! 24 (sub ! 1 refl (whole !)))) (no-more !)))) (from ! (stop !)) (init ! 8 refl (tt, (tt, (record { fits = room₁ .0 }, tt)))) $
-          assigns ! (bin ! (load ! (from ! (stop !)) (look ! 18 refl)) (lit ! tt) (scaled-fits (i .0) (length ts) 24 (below less) (room .1))) (from ! (stop !)) (store ! 16 refl (tt, scaled-fits (i .0) (length ts) 24 (below less) (room .1))) $
+          assigns ! (bin ! (load ! (from ! (stop !)) (look ! 18 refl)) (lit ! tt) (scaled-fits (i .0) (length ts) recordSize (below less) (room .1))) (from ! (stop !)) (store ! 16 refl (tt, scaled-fits (i .0) (length ts) recordSize (below less) (room .1))) $
           assigns ! (bin ! (load ! (from ! (fld ! refl (stop !))) (look-in ! 20 (sub ! 0 refl (whole !)))) (load ! (from ! (stop !)) (look ! 16 refl)) tt) (from ! (stop !)) (init ! 6 refl (tt, tt)) $
-          rewrite ! 6 (λ (k : ℕ). ‵ (fat fullShare tyPtr l₁₀ 0 (vptr b k))) (sym (place-is 24 o (i .0))) refl $
+          rewrite ! 6 (λ (k : ℕ). ‵ (fat fullShare tyPtr l₁₀ 0 (vptr b k))) (sym (place-is recordSize o (i .0))) refl $
           move ! (2 ∷ 3 ∷ []) $ looks-element ! tt R.the-type R′.the-laws (LL.copy R.the-type R′.the-copy 𝓤 H A W) ts (i .0) idle b o (below less) (λ share is.
           -- [the record's cell; what it owns; the others; the open borrow; the table's borrow; the image; its token; _11; …], with _i at 7 + 2 · (11 − i)
           assigns ! (of-opd ! (load ! (from ! (hop ! (look ! 9 refl) (stop !))) (look-raw ! 0 refl))) (from ! (stop !)) (init ! 7 refl (record-typed 𝓤 H A W (at (i .0)) is)) $

@@ -29,6 +29,7 @@ use Rattle.walks.proofs.Loans.{in-field, cuts-array, joins-array, lends-first, 
 use Rattle.party.specs.declared.Record.{Record}
 use Rattle.party.proofs.Record as R
 use Rattle.party.proofs.Record.Laws as R′
+use Rattle.table.proofs.Machine.{recordSize}
 use Rattle.whole.proofs.read as read
 use Rattle.whole.proofs.read.Symbol as read-def
 use Rattle.whole.proofs.read.Symbol.{name as #whole·read}
@@ -122,7 +123,7 @@ module _ {M : Type 1} (𝓤 : URA M) (H : Heap 𝓤) (A : Atoms 𝓤) (W : Given
         -- [the last lists; the loan's token; …; the strip's; the bytes'; the result; the lender's part; the others; _11; …]
         move ! (5 ∷ []) $ fsplit ! $ drop ! $ fsplit ! $ fsplit ! $ move ! (1 ∷ []) $ feqL ! (λ l₁. move ! (1 ∷ []) $ fsplit ! $ fsplit ! $
         move ! (0 ∷ 4 ∷ 9 ∷ []) $ ends-loan ! tt R.the-row (length (take n rs)) l₅ (ws .1 .1 .0) (λ l₂.
-        move ! (0 ∷ 8 ∷ []) $ rewrite ! 1 (λ (m : ℕ). ‵ (cells (mem R.the-row) (leave n rs) l₅ (at 0 24 m))) (sym l₂) refl $
+        move ! (0 ∷ 8 ∷ []) $ rewrite ! 1 (λ (m : ℕ). ‵ (cells (mem R.the-row) (leave n rs) l₅ (at 0 recordSize m))) (sym l₂) refl $
         joins-array ! R.the-type R′.the-laws 17 l₅ (ws .1 .1 .0) (leave n rs) (same-len n rs (ws .1 .1 .0) l₂ ∙ (length-is rs is-table)) (λ is.
         -- [_5; …; the last words (3); …; the strip's token; the bytes'; the result; _11; …; _6; …; _5's end; _4; …]
         move ! (7 ∷ 8 ∷ 9 ∷ 10 ∷ 11 ∷ 12 ∷ 13 ∷ 14 ∷ 15 ∷ 16 ∷ 17 ∷ 18 ∷ 19 ∷ 0 ∷ 20 ∷ []) $ result-u32 ! got w (λ got-fits.
