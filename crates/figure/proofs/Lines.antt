@@ -23,9 +23,10 @@ use Rattle.step.specs.Step.{maxOf, stepRefusal, stepOf, stepLeaves}
 use Rattle.step.specs.declared.AfterSwap.{AfterSwap}
 use Rattle.step.specs.declared.AfterSwap.the-variants.{Onward, Push, Pop}
 use Rattle.party.proofs.Stages.{ValidAt, valid-at}
+use Rattle.party.proofs.Refusals.{Checked, refusal-is-not-0}
 use Rattle.step.proofs.Cleared.{steppable}
 use Rattle.step.proofs.Accesses.{when-refused}
-use Rattle.step.proofs.Went.{refusal-is}
+use Rattle.step.proofs.Went.{step-checked}
 use Rattle.figure.specs.Figure.{element, Next, leads, ifCAS}
 use Rattle.figure.specs.Reading.{elementOf, elements, Reaches, Matches, IsTheLine}
 use Rattle.figure.proofs.Elements.{same-is-whole, element-at, element-raised, elements-set}
@@ -58,8 +59,8 @@ swapped-is-CAS strip place from to r then succeeds fails fits goes won lost =
     go : SwapGoes met from
         → Matches (pick (eqb met from) (leads (set (elements strip) place (element to (counterOf from + 1))) succeeds) (leads (elements strip) fails))
         (swappedOf r then (swapOf met from)) (wordsAfter (swapOf met from) strip place (raisedTo from to))
-    go (SwapGoes.won whole unended e) =
-        rw (e, eq-eqb met from whole)
+    go (SwapGoes.won took e) =
+        rw (e, eq-eqb met from (took .same))
         (record { array = rw (elements-set strip place (raisedTo from to), element-raised from to fits); next = won })
     go (SwapGoes.lost other e) = rw (e, ne-eqb met from other) (record { array = refl; next = lost })
     go (SwapGoes.stuck whole ended e) = absurd (true≢false (rw e at goes))
@@ -172,22 +173,18 @@ module _ (strip : List ℕ) (r : Record) (hint : ℕ) (fits : r .v < 4294967296)
 -- An order is 32 bits wide.
 pub each-step-is-the-figures-line : (strip : List ℕ) (r : Record) (hint : ℕ) → isRight (r .operation) ≡ true → r .v < 4294967296
     → isRefusal (numberOf (stepOf strip r hint .answer)) ≡ false → IsTheLine strip r hint
-each-step-is-the-figures-line strip r hint right fits goes = go (eqb number 0) (eqb (r .operation) 0) refl refl
+each-step-is-the-figures-line strip r hint right fits goes = go (step-checked (length strip) r hint) (eqb (r .operation) 0) refl
   where
     number : ℕ
     number = stepRefusal (length strip) r hint
 
-    go : (none push : Bool) → eqb number 0 ≡ none → eqb (r .operation) 0 ≡ push → IsTheLine strip r hint
-    go true true e o =
-        let passes = eqb-true number 0 e in
+    go : Checked number → (push : Bool) → eqb (r .operation) 0 ≡ push → IsTheLine strip r hint
+    go (Checked.none passes) true o =
         let clear = steppable (length strip) r hint passes in
         push-is-its-line strip r hint fits (eqb-true (r .operation) 0 o) (clear .busy) (valid-at _ r (clear .valid)) passes goes
-    go true false e o =
-        let passes = eqb-true number 0 e in
+    go (Checked.none passes) false o =
         let clear = steppable (length strip) r hint passes in
         let is-1 : r .operation ≡ 1 = omega (arith, ltb-true (r .operation) 2 right, eqb-false (r .operation) 0 o) in
         pop-is-its-line strip r hint fits is-1 (clear .busy) (valid-at _ r (clear .valid)) passes goes
-    go false push e o =
-        let some = eqb-false number 0 e in
-        let refused = refusal-is (length strip) r hint some in
-        absurd (true≢false (sym refused ∙ rw (when-refused strip r hint some .0) at goes))
+    go (Checked.some refused) push o =
+        absurd (true≢false (sym refused ∙ rw (when-refused strip r hint (refusal-is-not-0 number refused) .0) at goes))

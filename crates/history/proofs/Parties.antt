@@ -17,9 +17,11 @@ use Rattle.party.specs.declared.Record.{Record}
 use Rattle.party.specs.declared.Answered.{Answered}
 use Rattle.party.specs.declared.Answer.{Answer}
 use Rattle.party.specs.declared.Answer.the-variants.{GoesOn}
+use Rattle.party.proofs.Refusals.{refusal-is-not-0}
 use Rattle.step.specs.Step.{stepOf, stepLeaves}
 use Rattle.step.specs.Call.{Call, partyOf, callOf}
 use Rattle.step.proofs.Cleared.{Steppable}
+use Rattle.step.proofs.Calls.{other-records-stand}
 use Rattle.step.proofs.Went.{GoneOn}
 use Rattle.step.proofs.Called.{Leaves, Called, called}
 use Rattle.history.specs.Run.{State, goesOn, isStep, looked, lineOf, leaves}
@@ -28,7 +30,7 @@ use Rattle.history.proofs.Stepped.{Stepped, stepped}
 
 -- a refusal does not go on
 refusal-stops : (number : ℕ) → isRefusal number ≡ true → goesOn number ≡ false
-refusal-stops number refusal = ne-eqb number 0 (λ (e : number ≡ 0). true≢false (sym refusal ∙ rw e refl))
+refusal-stops number refusal = ne-eqb number 0 (refusal-is-not-0 number refusal)
 
 -- who does not go on has not looked
 stops-unlooked : (s : State) (call : Call) (number : ℕ) → goesOn number ≡ false → looked s call number ≡ false
@@ -75,16 +77,7 @@ module _ (s : State) (entry : ℕ) where
 
   pub record-elsewhere : (call : Call) (i : ℕ) → (i ≡ partyOf call → ⊥) → recordThen call i ≡ recordAt i
   unfolding leaves
-  record-elsewhere call i other = go (called (s .strip) (s .table) call)
-    where
-      elsewhere : (party : ℕ) (r : Record) → partyOf call ≡ party → getD (set (s .table) party r) i idle ≡ recordAt i
-      elsewhere party r is = getD-set-other (s .table) party i r idle (λ (e : i ≡ party). other (e ∙ sym is))
-
-      go : Called (s .strip) (s .table) call → getD (callOf (s .strip) (s .table) call .table) i idle ≡ recordAt i
-      go (Called.refuses number refusal left) = rw (left .table-is) refl
-      go (Called.starts party operation order is known clear left) = rw (left .table-is) (elsewhere party _ (ap partyOf is))
-      go (Called.withdraws party is known left) = rw (left .table-is) (elsewhere party _ (ap partyOf is))
-      go (Called.steps party hint is known clear on left) = rw (left .table-is) (elsewhere party _ (ap partyOf is))
+  record-elsewhere = other-records-stand (s .strip) (s .table)
 
   -- a step from stage 1 or 2 that goes on looks; another one was past them
   no-look-later : (call : Call) → isStep call ≡ true → numberIn s call ≡ 0 → 1 ≤ recordAt (partyOf call) .stage

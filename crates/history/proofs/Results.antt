@@ -15,6 +15,7 @@ use Rattle.party.specs.declared.Record.{Record}
 use Rattle.party.specs.declared.Answered.{Answered}
 use Rattle.party.specs.declared.Answer.{Answer}
 use Rattle.party.specs.declared.Answer.the-variants.{GoesOn}
+use Rattle.party.proofs.Refusals.{refusal-is-small}
 use Rattle.step.specs.Step.{stepOf, stepLeaves}
 use Rattle.step.specs.Call.{Call, partyOf, recordOf, callOf}
 use Rattle.step.proofs.Cleared.{Steppable}
@@ -38,11 +39,7 @@ looked-before s entry call ended (inr empty) = let at = ended .empty-at empty in
 
 refusal-is-no-result : (number : ℕ) → isRefusal number ≡ true → isResult number ≡ true → ⊥
 refusal-is-no-result number refusal result =
-    omega (
-      arith,
-      leb-true number 12 (both (leb 1 number) (leb number 12) refusal .1),
-      leb-true 16 number (both (leb 16 number) (leb number 19) result .0),
-    )
+    omega (arith, refusal-is-small number refusal, leb-true 16 number (both (leb 16 number) (leb number 19) result .0))
 
 -- a call that goes on has no result
 going-on-is-no-result : (s : State) (call : Call) → callOf (s .strip) (s .table) call .answer ≡ GoesOn

@@ -10,6 +10,7 @@ use borrow.Author.Tests.{eqb-true, ne-eqb, le-leb}
 use native.Mathlib.Omega.{arith}
 use Rattle.logic.specs.Pick.{pick}
 use Rattle.logic.specs.Every.{Every}
+use Rattle.word.specs.Word.{IsWord}
 use Rattle.party.specs.Record.{idle}
 use Rattle.party.specs.Answer.{refused}
 use Rattle.party.specs.declared.Record.{Record}
@@ -23,7 +24,6 @@ use Rattle.image.specs.Spelling.{stripOf, tableOf, recordAt, isSpare, sp
 use Rattle.image.specs.Read.{namedRefusal, recorded}
 use Rattle.image.specs.Calls.{Done, unchanged, encoded, imageOf}
 use Rattle.little.proofs.Digits.{AreBytes}
-use Rattle.image.proofs.Words.{WordFits}
 use Rattle.image.proofs.Widths.{read-record-fits}
 use Rattle.image.proofs.Leaves.{words-fit, Fit, own-leaves}
 use Rattle.image.proofs.Sizes.{header-sized}
@@ -122,7 +122,7 @@ module _ (image : List ℕ) (call : Call) (are : AreBytes image) (clear : namedR
         → imageOf image call ≡ record { answer = given .answer; image = recorded (sets image (wordPlace place) (bytesOf 8 w)) (placeIn image call) given }
     own-swapped given place w owned inside =
         let within : place < length (stripOf image) = rw (strip-length image) inside in
-        let word-fits : WordFits w =
-        subst WordFits (getD-set-same (stripOf image) place w 0 within)
-        (subst (Every WordFits 0) (owned .1) (own-fit .words) place (rw (length-set (stripOf image) place w) within)) in
+        let word-fits : IsWord w =
+        subst IsWord (getD-set-same (stripOf image) place w 0 within)
+        (subst (Every IsWord 0) (owned .1) (own-fit .words) place (rw (length-set (stripOf image) place w) within)) in
         passes owned ∙ rw (both-are-laid image are place w (partyOf call) (given .rec) word-fits inside (rec-fits given owned) (fits .party-known)) refl

@@ -9,6 +9,7 @@ use lib.Dec.{eqb}
 use Rattle.logic.specs.Every.{Every}
 use Rattle.logic.proofs.Bools.{whichever}
 use Rattle.logic.proofs.Lists.{every-set}
+use Rattle.word.specs.Word.{IsWord}
 use Rattle.party.specs.Record.{idle}
 use Rattle.party.specs.declared.Record.{Record}
 use Rattle.step.specs.Call.{Call, Fitting, gate, ownOf, ownLeaves, recordOf, partyOf, Left, through, turnedAway, callOf}
@@ -16,7 +17,6 @@ use Rattle.image.specs.Format.{headerRefusal}
 use Rattle.image.specs.Spelling.{stripOf, tableOf, spelled, RecordFits}
 use Rattle.image.specs.Calls.{decoded, spareRefused, imageOf}
 use Rattle.little.proofs.Digits.{AreBytes}
-use Rattle.image.proofs.Words.{WordFits}
 use Rattle.image.proofs.Widths.{idle-fits}
 use Rattle.image.proofs.Sizes.{header-sized}
 use Rattle.image.proofs.Spelled.{strip-length, table-length, spelled-strip-is-decoded, spelled-table-is-decoded}
@@ -46,7 +46,7 @@ module _ (image : List ℕ) (are : AreBytes image) (taken : headerRefusal image 
   -- of the words and records that are left: as many as before, and fitting
   Left-fits : Left → Type 0
   Left-fits left =
-      (length (left .strip) ≡ length strip) × Every WordFits 0 (left .strip) × (length (left .table) ≡ length table) × Every RecordFits idle (left .table)
+      (length (left .strip) ≡ length strip) × Every IsWord 0 (left .strip) × (length (left .table) ≡ length table) × Every RecordFits idle (left .table)
 
   left-fits : Left-fits (decoded image call)
   unfolding callOf Left-fits

@@ -11,11 +11,11 @@ use Rattle.logic.specs.Pick.{pick}
 use Rattle.logic.specs.Every.{Every}
 use Rattle.logic.proofs.Bools.{whichever}
 use Rattle.logic.proofs.Lists.{every-set}
-use Rattle.word.specs.Word.{raisedTo}
+use Rattle.word.specs.Word.{IsWord, raisedTo}
 use Rattle.word.specs.Swap.{swapOf, wordsAfter}
 use Rattle.word.specs.declared.Swapped.{Swapped}
 use Rattle.word.specs.declared.Swapped.the-variants.{Won, Lost, Stuck}
-use Rattle.word.proofs.Laws.{SwapGoes, swap-goes}
+use Rattle.word.proofs.Laws.{SwapGoes, swap-goes, raised-is-word}
 use Rattle.party.specs.Record.{idle, begun}
 use Rattle.party.specs.Answer.{goingOn, refused}
 use Rattle.party.specs.Calls.{startRefusal, startOf, withdrawRefusal, withdrawOf}
@@ -33,13 +33,12 @@ use Rattle.step.proofs.Cleared.{steppable, hint-fits-k}
 use Rattle.image.specs.Format.{wordPlace, recordPlace, maxAt}
 use Rattle.image.specs.Spelling.{stripOf, tableOf, RecordFits}
 use Rattle.little.proofs.Digits.{AreBytes, number-fits}
-use Rattle.image.proofs.Words.{WordFits}
 use Rattle.image.proofs.Widths.{read-record-fits, idle-fits, begun-fits, aimed-fits, looked-fits, swapped-fits}
 use Rattle.image.proofs.Spelled.{strip-length, table-length, word-is-read, record-is-read}
 use Rattle.party.specs.Operation.{isPush, isRight}
 use Rattle.step.specs.Stages.{own}
 
-pub words-fit : (image : List ℕ) → AreBytes image → Every WordFits 0 (stripOf image)
+pub words-fit : (image : List ℕ) → AreBytes image → Every IsWord 0 (stripOf image)
 words-fit image are i within =
     rw (word-is-read image i (subst (λ (n : ℕ). i < n) (strip-length image) within)) (number-fits 8 image (wordPlace i) are)
 
@@ -58,13 +57,13 @@ fits-anywhere P past l every beyond i = go (ltb i (length l)) refl
 -- Words and a record that fit, as many words as before.
 pub record Fit (strip left : List ℕ) (r : Record) : Type 0 where
   pub as-many : length left ≡ length strip
-  pub words : Every WordFits 0 left
+  pub words : Every IsWord 0 left
   pub rec : RecordFits r
 
 -- what a swap goes from and to fits its width
 abbrev AccessFits : Access → Type 0
 AccessFits (Look place then) = Unit {0}
-AccessFits (Swap place from to then) = WordFits from × (to < 4294967296)
+AccessFits (Swap place from to then) = IsWord from × (to < 4294967296)
 
 access-fits : (r : Record) → RecordFits r → AccessFits (accessOf r)
 unfolding accessOf
@@ -83,14 +82,14 @@ access-fits r fits =
     null : own r < 4294967296
     null = whichever (λ (n : ℕ). n < 4294967296) (isRight (r .operation)) (omega arith) (omega arith)
 
-module _ (strip : List ℕ) (words : Every WordFits 0 strip) where
+module _ (strip : List ℕ) (words : Every IsWord 0 strip) where
   same-words : (r : Record) → RecordFits r → Fit strip strip r
   same-words r fits = record { as-many = refl; words = words; rec = fits }
 
   -- one access, and what follows it
   access-leaves : (at : Record) → RecordFits at → (l : Access) → AccessFits l → Fit strip (written strip l) (followed strip at l .rec)
   access-leaves at fits (Look place then) access =
-      same-words _ (looked-fits (maxOf (length strip)) at fits then (getD strip place 0) (fits-anywhere WordFits 0 strip words (omega arith) place))
+      same-words _ (looked-fits (maxOf (length strip)) at fits then (getD strip place 0) (fits-anywhere IsWord 0 strip words (omega arith) place))
   access-leaves at fits (Swap place from to then) access = go (swap-goes (getD strip place 0) from)
     where
       met : ℕ
@@ -100,11 +99,11 @@ module _ (strip : List ℕ) (words : Every WordFits 0 strip) where
       After end = Fit strip (wordsAfter end strip place (raisedTo from to)) (swappedOf at then end .rec)
 
       go : SwapGoes met from → After (swapOf met from)
-      go (SwapGoes.won same unended e) =
+      go (SwapGoes.won took e) =
           subst After (sym e)
           (record {
             as-many = length-set strip place (raisedTo from to);
-            words = every-set WordFits 0 strip place (raisedTo from to) words (omega (arith, access, unended));
+            words = every-set IsWord 0 strip place (raisedTo from to) words (raised-is-word met from to took (access .0) (access .1));
             rec = swapped-fits at fits then Won;
           })
       go (SwapGoes.lost other e) = subst After (sym e) (same-words (swappedOf at then (Lost met) .rec) (swapped-fits at fits then (Lost met)))

@@ -170,7 +170,7 @@ module _ (image : List ℕ) (party hint : ℕ) (are : AreBytes image) (clear : n
               (record { answered = same; words = ap (λ (t : Swapped). wordsAfter t (stripOf image) place (raisedTo from to)) same })
 
           go : SwapGoes (numberAt 8 image (wordPlace place)) from → Went (metAt image place from)
-          go (SwapGoes.won same unended e) =
+          go (SwapGoes.won took e) =
               let step = owned Won e in
               subst Went (sym e)
               (own-swapped image stepping are clear tt (swappedOf at then Won) place (raisedTo from to) (sym (step .0), sym (step .1)) inside)

@@ -6,6 +6,7 @@ use lib.ListN.{length, getD, set}
 use lib.Seq.{sets}
 use native.Mathlib.Omega.{arith}
 use Rattle.logic.specs.Every.{Every}
+use Rattle.word.specs.Word.{IsWord}
 use Rattle.party.specs.Record.{idle}
 use Rattle.party.specs.declared.Record.{Record}
 use Rattle.little.specs.Bytes.{numberAt, bytesOf}
@@ -14,7 +15,7 @@ use Rattle.image.specs.Spelling.{stripOf, tableOf, recordAt, wordBytes, 
 use Rattle.little.proofs.Runs.{past-a-run}
 use Rattle.little.proofs.Digits.{AreBytes, length-bytes, digits-are-bytes, bytes-stay, same-number}
 use Rattle.image.proofs.Parts.{partsFrom, withParts, length-parts, length-with, below-parts, past-parts, same-parts, read-parts-laid, one-part-laid, part-at, laid-parts-read}
-use Rattle.image.proofs.Words.{WordFits, wordPart, words-are-parts, words-laid-are-parts}
+use Rattle.image.proofs.Words.{wordPart, words-are-parts, words-laid-are-parts}
 use Rattle.image.proofs.Records.{length-record, recordPart, records-are-parts, records-laid-are-parts}
 
 -- where the records begin
@@ -75,7 +76,7 @@ module _ (image : List ℕ) (are : AreBytes image) where
       (one-part-laid recordPart (partiesAt image) image (recordsAt image) party r are fits h)
 
   -- With one word set too, the bytes of that word and of that record.
-  pub both-are-laid : (place w party : ℕ) (r : Record) → WordFits w → place < maxAt image + 2 → RecordFits r → party < partiesAt image
+  pub both-are-laid : (place w party : ℕ) (r : Record) → IsWord w → place < maxAt image + 2 → RecordFits r → party < partiesAt image
       → spelled image (set (stripOf image) place w) (set (tableOf image) party r)
       ≡ sets (sets image (wordPlace place) (bytesOf 8 w)) (recordPlace (maxAt image) party) (recordBytes r)
   both-are-laid place w party r fitting inside fits h =
@@ -105,7 +106,7 @@ module _ (image strip : List ℕ) (table : List Record) where
 
   module _ (exact : length image ≡ lengthOf (maxAt image) (partiesAt image)) (words : length strip ≡ maxAt image + 2)
       (parties : length table ≡ partiesAt image) where
-    pub spelled-strip-is-decoded : Every WordFits 0 strip → stripOf (spelled image strip table) ≡ strip
+    pub spelled-strip-is-decoded : Every IsWord 0 strip → stripOf (spelled image strip table) ≡ strip
     spelled-strip-is-decoded fit =
         strip-is (spelled image strip table)
         ∙ rw (max-kept, ← words, spelled-is image strip table)

@@ -8,6 +8,7 @@ use borrow.Author.Tests.{eqb-true}
 use native.Mathlib.Omega.{arith}
 use Rattle.logic.specs.Pick.{pick}
 use Rattle.logic.proofs.Bools.{whichever}
+use Rattle.word.specs.Word.{IsWord}
 use Rattle.word.specs.declared.Swapped.{Swapped}
 use Rattle.word.specs.declared.Swapped.the-variants.{Won, Lost, Stuck}
 use Rattle.party.specs.Record.{idle, begun, withPlace}
@@ -21,7 +22,6 @@ use Rattle.step.specs.declared.AfterSwap.{AfterSwap}
 use Rattle.step.specs.declared.AfterSwap.the-variants.{Onward, Push, Pop}
 use Rattle.image.specs.Spelling.{recordAt, RecordFits}
 use Rattle.little.proofs.Digits.{AreBytes, number-fits}
-use Rattle.image.proofs.Words.{WordFits}
 
 pub read-record-fits : (l : List ℕ) (at : ℕ) → AreBytes l → RecordFits (recordAt l at)
 unfolding recordAt
@@ -52,7 +52,7 @@ abbrev LeavesFitting : Answered → Type 0
 LeavesFitting given = RecordFits (given .rec)
 
 module _ (max : ℕ) (r : Record) (fits : RecordFits r) where
-  pub looked-fits : (then : AfterLook) (word : ℕ) → WordFits word → RecordFits (lookedOf max r then word .rec)
+  pub looked-fits : (then : AfterLook) (word : ℕ) → IsWord word → RecordFits (lookedOf max r then word .rec)
   unfolding judgeOf recheckOf
   looked-fits Remember word narrow = omega (arith, fits)
   looked-fits Judge word narrow =

@@ -4,14 +4,12 @@ use mathlib.Core.Path.{_≡_, refl, _∙_, ap}
 use mathlib.Core.List.{List, [], _∷_}
 use lib.Seq.{sets}
 use native.Mathlib.Omega.{arith}
+use Rattle.word.specs.Word.{IsWord}
 use Rattle.little.specs.Bytes.{numberAt, bytesOf}
 use Rattle.image.specs.Spelling.{wordsFrom, wordBytes}
 use Rattle.little.proofs.Runs.{run-append}
 use Rattle.little.proofs.Digits.{length-bytes, digits-are-bytes, bytes-stay, same-number, laid-fitting-is-read, read-is-laid}
 use Rattle.image.proofs.Parts.{Part, partsFrom, withParts}
-
-abbrev pub WordFits : ℕ → Type 0
-WordFits w = w < 18446744073709551616
 
 abbrev pub wordPart : Part ℕ
 wordPart =
@@ -19,7 +17,7 @@ wordPart =
       size = 8;
       reads = numberAt 8;
       bytes = bytesOf 8;
-      Fits = WordFits;
+      Fits = IsWord;
       short = λ w. omega (arith, length-bytes 8 w);
       same = same-number 8;
       read-laid = read-is-laid 8;

@@ -6,14 +6,12 @@ use mathlib.Core.Bool.{true}
 use mathlib.Core.Logic.{_⊎_}
 use mathlib.Core.List.{List}
 use lib.ListN.{length, getD}
-use lib.Dec.{leb}
-use borrow.Author.Tests.{leb-true}
 use native.Mathlib.Omega.{arith}
-use Rattle.logic.proofs.Bools.{both}
 use Rattle.party.specs.Record.{idle}
 use Rattle.party.specs.Answer.{numberOf}
 use Rattle.party.specs.declared.Record.{Record}
 use Rattle.party.specs.declared.Answer.{Answer}
+use Rattle.party.proofs.Refusals.{refusal-is-small}
 use Rattle.step.specs.Step.{stripFits}
 use Rattle.step.specs.Call.{Call, callOf}
 use Rattle.plain.specs.Plain.{Plain}
@@ -50,7 +48,7 @@ call-effect strip table call p fits sane stands = go (called strip table call)
 
     go : Called strip table call → CallEffect strip table call p
     go (Called.refuses number refusal left) =
-        let small = leb-true number 12 (both (leb 1 number) (leb number 12) refusal .1) in
+        let small = refusal-is-small number refusal in
         CallEffect.quiet (rw (number-is left) (omega arith)) (rw (left .strip-is) stands)
     go (Called.starts party operation order is known clear left) =
         CallEffect.quiet (rw (number-is left) (omega arith)) (rw (left .strip-is) stands)

@@ -1,7 +1,7 @@
 -- What a record remembers of the plain strip at its last look stays true, whatever is called.
 use Prim.Native.Nat.{ℕ, _<_}
 use mathlib.Core.Path.{_≡_, sym, _∙_, ap}
-use mathlib.Core.Bool.{true, true≢false}
+use mathlib.Core.Bool.{true}
 use mathlib.Core.Logic.{_⊎_}
 use mathlib.Core.List.{List}
 use lib.ListN.{length, getD, length-set}
@@ -11,9 +11,10 @@ use Rattle.logic.proofs.Lists.{at-set}
 use Rattle.word.specs.Word.{raisedTo}
 use Rattle.party.specs.Operation.{wall}
 use Rattle.party.specs.Record.{idle, begun}
-use Rattle.party.specs.Answer.{numberOf, isRefusal}
+use Rattle.party.specs.Answer.{numberOf}
 use Rattle.party.specs.declared.Record.{Record}
 use Rattle.party.specs.declared.Answer.{Answer}
+use Rattle.party.proofs.Refusals.{refusal-is-not-0}
 use Rattle.step.specs.Stages.{near}
 use Rattle.step.specs.Follow.{pushAtWall}
 use Rattle.step.specs.Step.{stripFits, maxOf, stepOf, stepLeaves}
@@ -63,7 +64,7 @@ module _ (strip : List ℕ) (table : List Record) (call : Call) (p : Plain) (fit
       go : Called strip table call → Remembers left-strip (left-record party) p
       go (Called.refuses number refusal left) =
           let none : number ≡ 0 = sym (ap numberOf (left .answered)) ∙ zero in
-          absurd (true≢false (sym refusal ∙ ap isRefusal none))
+          absurd (refusal-is-not-0 number refusal none)
       go (Called.starts party′ operation order is′ known clear left) = let z : _≡_ {A = ℕ} 0 1 = cc in absurd (omega arith)
       go (Called.withdraws party′ is′ known left) = let z : _≡_ {A = ℕ} 0 1 = cc in absurd (omega arith)
       go (Called.steps party′ hint′ is′ known clear on left) =

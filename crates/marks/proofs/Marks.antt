@@ -11,7 +11,7 @@ use Rattle.strip.specs.Measure.{measureOf}
 use Rattle.strip.specs.Measure as measure
 use Rattle.plain.specs.Play.{play}
 use Rattle.placing.specs.Placing.{atEntry, inOrder}
-use Rattle.history.specs.Run.{lineOf as runLine, leaves, linesFrom, endFrom}
+use Rattle.history.specs.Run.{lineOf, leaves, linesFrom, endFrom}
 use Rattle.history.specs.Finished.{finishedFrom}
 use Rattle.marks.specs.Seen.{seenFrom}
 use Rattle.marks.specs.Replay.{allSame, replays}
@@ -23,7 +23,7 @@ use Rattle.schedule.specs.Listing.{listingOf, linesText, wordsText}
 use Rattle.marks.specs.Marks.{allHold, marks, prints}
 
 pub the-marks-hold : allHold marks && prints ≡ true
-unfolding validOf startOwn startRefusal startOf lineOf judgeOf recheckOf stepOwn stepRefusal stepOf stepLeaves gate callOf
-    measure.runOf measureOf play atEntry inOrder runLine leaves linesFrom endFrom finishedFrom seenFrom allSame replays allHold
+unfolding validOf startOwn startRefusal startOf accessOf judgeOf recheckOf stepOwn stepRefusal stepOf stepLeaves gate callOf
+    measure.runOf measureOf play atEntry inOrder lineOf leaves linesFrom endFrom finishedFrom seenFrom allSame replays allHold
     numberAt callAt callsFrom digitsOf listingOf linesText wordsText
 the-marks-hold = refl

@@ -1,10 +1,11 @@
 -- Every ladder of checks ends at 0 or at one of the table's refusals.
-use Prim.Native.Nat.{ℕ}
+use Prim.Native.Nat.{ℕ, _≤_}
 use mathlib.Core.Path.{_≡_, refl, sym, _∙_, ap}
 use mathlib.Core.Bool.{true, not, true≢false}
-use lib.Dec.{ltb}
-use borrow.Author.Tests.{ne-eqb}
-use Rattle.logic.proofs.Bools.{whichever}
+use lib.Dec.{leb, ltb}
+use borrow.Author.Tests.{ne-eqb, leb-true}
+use native.Mathlib.Omega.{arith}
+use Rattle.logic.proofs.Bools.{both, whichever}
 use Rattle.party.specs.Operation.{orderFits}
 use Rattle.party.specs.Valid.{isIdle, validOf}
 use Rattle.party.specs.Answer.{isRefusal, refused, unless}
@@ -18,6 +19,13 @@ pub data Checked (number : ℕ) : Type 0 where
 
 pub refusal-is-not-0 : (number : ℕ) → isRefusal number ≡ true → number ≡ 0 → ⊥
 refusal-is-not-0 number refusal e = true≢false (sym refusal ∙ ap isRefusal e)
+
+pub refusal-is-small : (number : ℕ) → isRefusal number ≡ true → number ≤ 12
+refusal-is-small number refusal = leb-true number 12 (both (leb 1 number) (leb number 12) refusal .1)
+
+pub checked-is-small : {number : ℕ} → Checked number → number ≤ 12
+checked-is-small (none e) = omega arith
+checked-is-small {number} (some refusal) = refusal-is-small number refusal
 
 -- what such a number decides
 pub unless-none : (number : ℕ) (r : Record) (done : Answered) → number ≡ 0 → unless number r done ≡ done

@@ -5,15 +5,15 @@ use mathlib.Core.Bool.{Bool, true, false, not, _&&_, and-false}
 use mathlib.Core.List.{List}
 use lib.ListN.{length, getD, set, take}
 use lib.Seq.{length-take-le, getD-take, take-set-lt, set-getD}
-use lib.Dec.{eqb, leb}
-use borrow.Author.Tests.{eqb-true, eqb-false, eq-eqb, ne-eqb, leb-false}
+use lib.Dec.{eqb}
+use borrow.Author.Tests.{eqb-true, eqb-false, ne-eqb}
 use native.Mathlib.Omega.{arith}
 use Rattle.logic.specs.Pick.{pick}
-use Rattle.logic.proofs.Bools.{passed, whichever}
 use Rattle.party.specs.Record.{idle}
 use Rattle.party.specs.declared.Record.{Record}
-use Rattle.step.specs.Step.{stripFits}
-use Rattle.step.specs.Call.{Call, partyOf, tableFits, isUnknown, gate, through, turnedAway, callOf}
+use Rattle.party.proofs.Refusals.{checked-is-small}
+use Rattle.step.specs.Call.{Call, partyOf, gate}
+use Rattle.step.proofs.Called.{gate-checked, past-gate, call-through, call-away}
 use Rattle.history.specs.Run.{State, lineOf, leaves}
 use Rattle.schedule.specs.Turn.{TurnPromise, lineIn, partyIn16}
 use Rattle.schedule.specs.declared.Turn.{Turn}
@@ -22,31 +22,6 @@ use Rattle.schedule.proofs.Turns.{turned-away, let-through}
 -- the state of the run, of which the arrays hold the first `parties`
 abbrev pub stateOf : (parties : ℕ) (strip : List ℕ) (table : List Record) (looks : List ℕ) → State
 stateOf parties strip table looks = record { strip = strip; table = take parties table; looks = take parties looks }
-
-call-through : (strip : List ℕ) (table : List Record) (call : Call) → gate (length strip) (length table) call ≡ 0
-    → callOf strip table call ≡ through strip table call
-unfolding callOf
-call-through strip table call clear = simp (eq-eqb _ _ clear)
-
-call-away : (strip : List ℕ) (table : List Record) (call : Call) → (gate (length strip) (length table) call ≡ 0 → ⊥)
-    → callOf strip table call ≡ turnedAway strip table (gate (length strip) (length table) call)
-unfolding callOf
-call-away strip table call barred = simp (ne-eqb _ _ barred)
-
--- a party that the gate lets through has a record
-inside : (words parties : ℕ) (call : Call) → gate words parties call ≡ 0 → partyOf call < parties
-unfolding gate
-inside words parties call clear =
-    let past1 = passed (not (stripFits words && tableFits parties)) 0 _ clear in
-    let past11 = passed (isUnknown call) 10 _ (past1 .1) in
-    leb-false parties (partyOf call) (passed (leb parties (partyOf call)) 2 0 (past11 .1) .0)
-
-pub gate-small : (words parties : ℕ) (call : Call) → gate words parties call ≤ 11
-unfolding gate
-gate-small words parties call =
-    let small : ℕ → Type 0 = λ n. n ≤ 11 in
-    whichever small (not (stripFits words && tableFits parties)) (omega arith)
-    (whichever small (isUnknown call) (omega arith) (whichever small (leb parties (partyOf call)) (omega arith) (omega arith)))
 
 -- What a turn leaves on the two arrays, and the line it tells, are those of the run.
 pub record Enters (s : State) (entry : ℕ) (call : Call) (got : Turn) (next : State) : Type 0 where
@@ -71,7 +46,7 @@ module _ (parties : ℕ) (strip : List ℕ) (table : List Record) (looks : List 
   unfolding lineOf leaves
   enters-through clear got left promise =
       let p = partyOf call in
-      let at = inside (length strip) parties call clear in
+      let at = past-gate (length strip) parties call clear .party-known in
       let own = let-through strip parties (getD table p idle) call clear in
       let f = rw (own .0) at (promise .follows) in
       let calls = call-through strip (take parties table) call (same-gate ∙ clear) in
@@ -92,7 +67,7 @@ module _ (parties : ℕ) (strip : List ℕ) (table : List Record) (looks : List 
       let away = turned-away strip parties (getD table j idle) call barred in
       let f = rw (away .0) at (promise .follows) in
       let calls = call-away strip (take parties table) call (λ e. barred (sym same-gate ∙ e)) in
-      let small = gate-small (length strip) parties call in
+      let small = checked-is-small (gate-checked (length strip) parties call) in
       let no-full = ne-eqb (gate (length strip) parties call) 18 (λ e. omega arith) in
       let no-empty = ne-eqb (gate (length strip) parties call) 19 (λ e. omega arith) in
       let no-going = ne-eqb (gate (length strip) parties call) 0 barred in
@@ -117,7 +92,7 @@ module _ (parties : ℕ) (strip : List ℕ) (table : List Record) (looks : List 
           (stateOf parties left (set table (partyIn16 call) (got .rec)) (set looks (partyIn16 call) (got .look)))
       go true e =
           let clear = eqb-true (gate (length strip) parties call) 0 e in
-          let at = inside (length strip) parties call clear in
+          let at = past-gate (length strip) parties call clear .party-known in
           let place : partyOf call ≡ partyIn16 call = omega arith in
           subst At place (enters-through clear got left) promise
       go false e = enters-away (eqb-false (gate (length strip) parties call) 0 e) (partyIn16 call) got left promise

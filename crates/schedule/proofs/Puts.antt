@@ -6,15 +6,8 @@ use lib.ListN.{length, getD, take, set, length-append}
 use lib.Seq.{sets, take-suc, length-take-le}
 use native.Mathlib.Omega.{arith}
 use native.Mathlib.Numerals.{add-one}
-use native.Mathlib.Nat.{add-zero, add-suc, suc-add}
+use Rattle.little.proofs.Runs.{run-append}
 use Rattle.schedule.specs.Writing.{Room, Puts}
-
--- One text behind the other is both at once.
-sets-append : (out : List ℕ) (at : ℕ) (a b : List ℕ) → sets (sets out at a) (at + length a) b ≡ sets out at (a ++ b)
-sets-append out at [] b = ap (λ (n : ℕ). sets out n b) (add-zero at)
-sets-append out at (x ∷ a) b =
-    ap (λ (n : ℕ). sets (sets (set out at x) (suc at) a) n b) (add-suc at (length a) ∙ sym (suc-add at (length a)))
-    ∙ sets-append (set out at x) (suc at) a b
 
 module _ (a b : List ℕ) {out : List ℕ} {at : ℕ} where
   pub room-left : Room (a ++ b) out at → Room a out at
@@ -28,7 +21,7 @@ module _ (a b : List ℕ) {out : List ℕ} {at : ℕ} where
   puts-then p q =
       record {
         behind = omega (arith, length-append a b);
-        bytes = q .bytes ∙ rw (p .bytes, p .behind) (sets-append out at a b);
+        bytes = q .bytes ∙ rw (p .bytes, p .behind) (sym (run-append a b out at));
         long = q .long ∙ p .long;
       }
 
@@ -36,7 +29,7 @@ module _ (a b : List ℕ) {out : List ℕ} {at : ℕ} where
 pub copied-one-more : (out text : List ℕ) (at i : ℕ) → i < length text
     → set (sets out at (take i text)) (at + i) (getD text i 0) ≡ sets out at (take (i + 1) text)
 copied-one-more out text at i h =
-    rw (add-one, take-suc text i 0, ← sets-append, length-take-le i text (omega arith))
+    rw (add-one, take-suc text i 0, run-append, length-take-le i text (omega arith))
 
 -- In the middle of writing a text: the rest of it, written from here on, leaves what the whole leaves.
 pub record Rest (whole first : List ℕ) (from : ℕ) (rest out : List ℕ) (at : ℕ) : Type 0 where
@@ -57,7 +50,7 @@ module _ {whole first : List ℕ} {from : ℕ} {out : List ℕ} {at : ℕ} where
       record {
         long = p .long ∙ r .long;
         there = omega (arith, length-append a b);
-        bytes = rw (p .bytes, p .behind) (sets-append out at a b ∙ r .bytes);
+        bytes = rw (p .bytes, p .behind) (sym (run-append a b out at) ∙ r .bytes);
       }
 
   pub rest-ends : {rest : List ℕ} {next : ℕ} {left : List ℕ} → Rest whole first from rest out at → Puts rest out at next left

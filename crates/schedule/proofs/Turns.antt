@@ -1,20 +1,18 @@
 -- One entry: refused at the gate, or what its party's own record gets.
 use Prim.Native.Nat.{ℕ}
 use mathlib.Core.Path.{_≡_, refl, _∙_, ap, ap₂}
-use mathlib.Core.Bool.{Bool, true, not, _&&_, _||_}
+use mathlib.Core.Bool.{Bool, _&&_, _||_}
 use mathlib.Core.List.{List}
 use lib.ListN.{length}
 use lib.Dec.{eqb}
-use borrow.Author.Tests.{eq-eqb, ne-eqb, not-false}
+use borrow.Author.Tests.{eq-eqb, ne-eqb}
 use Rattle.logic.specs.Pick.{pick}
-use Rattle.logic.proofs.Bools.{both, passed}
 use Rattle.party.specs.Answer.{refused, Gives}
 use Rattle.party.specs.declared.Answered.{Answered}
 use Rattle.history.specs.Run.{goesOn}
 use Rattle.schedule.specs.declared.Turn.{Turn}
 use Rattle.party.specs.declared.Record.{Record}
-use Rattle.step.specs.Step.{stripFits}
-use Rattle.step.specs.Call.{Call, tableFits, gate, ownOf, ownLeaves}
+use Rattle.step.specs.Call.{Call, gate, ownOf, ownLeaves}
 use Rattle.schedule.specs.Turn.{turnOf, turnLeaves, Follows}
 
 module _ (strip : List ℕ) (parties : ℕ) (r : Record) (call : Call) where
@@ -27,11 +25,6 @@ module _ (strip : List ℕ) (parties : ℕ) (r : Record) (call : Call) where
       → (turnOf strip parties r call ≡ ownOf strip r call) × (turnLeaves strip parties r call ≡ ownLeaves strip r call)
   unfolding turnOf turnLeaves
   let-through clear = simp (eq-eqb _ _ clear) (refl, refl)
-
-pub gate-fits : (words parties : ℕ) (call : Call) → gate words parties call ≡ 0 → stripFits words ≡ true
-unfolding gate
-gate-fits words parties call clear =
-    both _ _ (not-false _ (passed (not (stripFits words && tableFits parties)) 0 _ clear .0)) .0
 
 -- What follows an answer follows the one that is wanted.
 pub follows-wanted : {wanted a : Answered} {steps isStep : Bool} {stage last entry : ℕ} {got : Turn} → Gives wanted a

@@ -7,8 +7,8 @@ use mathlib.Core.List.{List}
 use lib.ListN.{length, getD, set}
 use lib.Seq.{set-getD}
 use lib.Dec.{leb}
-use borrow.Author.Tests.{ne-eqb, leb-false}
-use Rattle.logic.proofs.Bools.{passed, whichever}
+use borrow.Author.Tests.{ne-eqb, leb-false, not-false}
+use Rattle.logic.proofs.Bools.{both, passed, whichever}
 use Rattle.party.specs.Record.{idle, begun}
 use Rattle.party.specs.Answer.{isRefusal, goingOn, refused, unless}
 use Rattle.party.specs.Calls.{startRefusal, startOf, withdrawRefusal, withdrawOf}
@@ -30,13 +30,21 @@ gate-checked words parties call =
     (whichever Checked (isUnknown call) (Checked.some refl)
     (whichever Checked (leb parties (partyOf call)) (Checked.some refl) (Checked.none refl)))
 
--- The gate passes: the party is below the count.
-pub party-known : (words parties : ℕ) (call : Call) → gate words parties call ≡ 0 → partyOf call < parties
+-- The gate passes: the strip fits, and the party is below the count.
+pub record PastGate (words parties : ℕ) (call : Call) : Type 0 where
+  pub strip-fits : stripFits words ≡ true
+  pub party-known : partyOf call < parties
+
+pub past-gate : (words parties : ℕ) (call : Call) → gate words parties call ≡ 0 → PastGate words parties call
 unfolding gate
-party-known words parties call none =
+past-gate words parties call none =
     let past1 = passed (not (stripFits words && tableFits parties)) 0 _ none in
     let past11 = passed (isUnknown call) 10 _ (past1 .1) in
-    leb-false parties (partyOf call) (passed (leb parties (partyOf call)) 2 0 (past11 .1) .0)
+    let past3 = passed (leb parties (partyOf call)) 2 0 (past11 .1) in
+    record {
+      strip-fits = both _ _ (not-false (stripFits words && tableFits parties) (past1 .0)) .0;
+      party-known = leb-false parties (partyOf call) (past3 .0);
+    }
 
 module _ (strip : List ℕ) (table : List Record) (call : Call) where
   abbrev number : ℕ
@@ -114,7 +122,7 @@ module _ (strip : List ℕ) (table : List Record) where
       go (Checked.some refusal) =
           refusing strip table call none number refusal (own ∙ unless-some number r (goingOn next) (refusal-is-not-0 number refusal)) left
       go (Checked.none passes) =
-          done passes (party-known (length strip) (length table) call none)
+          done passes (past-gate (length strip) (length table) call none .party-known)
           (leaves strip table call none (own ∙ unless-none number r (goingOn next) passes) left)
 
   starting : (party operation order : ℕ) → Through (Call.start party operation order)
@@ -139,18 +147,18 @@ module _ (strip : List ℕ) (table : List Record) where
       go : Went strip (of party) hint → Called strip table call
       go (Went.stays number refusal gone) = refusing strip table call none number refusal (gone .answered) (gone .words)
       go (Went.goes clear on) =
-          Called.steps party hint refl (party-known (length strip) (length table) call none) clear on
+          Called.steps party hint refl (past-gate (length strip) (length table) call none .party-known) clear on
           (leaves strip table call none refl refl)
 
-  past-gate : (call : Call) → Through call
-  past-gate (Call.start party operation order) = starting party operation order
-  past-gate (Call.step party hint) = stepping party hint
-  past-gate (Call.withdraw party) = withdrawing party
+  going : (call : Call) → Through call
+  going (Call.start party operation order) = starting party operation order
+  going (Call.step party hint) = stepping party hint
+  going (Call.withdraw party) = withdrawing party
 
   pub called : (call : Call) → Called strip table call
   called call = go (gate-checked (length strip) (length table) call)
     where
       go : Checked (gate (length strip) (length table) call) → Called strip table call
-      go (Checked.none none) = past-gate call none
+      go (Checked.none none) = going call none
       go (Checked.some refusal) =
           Called.refuses _ refusal (leaves-all strip table call (call-away strip table call (refusal-is-not-0 _ refusal)))

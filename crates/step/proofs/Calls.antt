@@ -1,12 +1,15 @@
--- What a call on a strip and a table of records keeps: a refused one changes nothing, valid records stay valid, and the table stays
--- as long as it was.
+-- What a call on a strip and a table of records keeps: a refused one changes nothing, valid records stay valid, the table stays as
+-- long as it was, and the others' records as they were.
 use Prim.Native.Nat.{ℕ}
-use mathlib.Core.Path.{_≡_, sym, _∙_, ap}
+use mathlib.Core.Path.{_≡_, refl, sym, _∙_, ap}
 use mathlib.Core.Bool.{true, true≢false}
 use mathlib.Core.List.{List}
-use lib.ListN.{length, set, length-set}
+use lib.ListN.{length, getD, set, length-set}
+use lib.Seq.{getD-set-other}
+use lib.Dec.{eqb}
 use native.Mathlib.Omega.{arith}
 use Rattle.logic.specs.Every.{Every}
+use Rattle.logic.proofs.Bools.{whichever}
 use Rattle.logic.proofs.Lists.{every-set}
 use Rattle.party.specs.Record.{idle}
 use Rattle.party.specs.Valid.{validOf}
@@ -15,7 +18,7 @@ use Rattle.party.specs.declared.Record.{Record}
 use Rattle.party.specs.declared.Answer.{Answer}
 use Rattle.party.proofs.Kept.{idle-is-valid, begun-is-valid}
 use Rattle.step.specs.Step.{maxOf}
-use Rattle.step.specs.Call.{Call, Left, callOf}
+use Rattle.step.specs.Call.{Call, partyOf, gate, Left, callOf}
 use Rattle.step.proofs.Kept.{going-on-is-no-refusal, step-keeps-valid}
 use Rattle.step.proofs.Called.{Leaves, Called, called}
 
@@ -69,3 +72,10 @@ module _ (strip : List ℕ) (table : List Record) (call : Call) where
       go (Called.starts party operation order is known clear left) = ap length (left .table-is) ∙ length-set table party _
       go (Called.withdraws party is known left) = ap length (left .table-is) ∙ length-set table party idle
       go (Called.steps party hint is known clear on left) = ap length (left .table-is) ∙ length-set table party _
+
+  -- Every record but the party's is as it was.
+  pub other-records-stand : (i : ℕ) → (i ≡ partyOf call → ⊥) → getD (callOf strip table call .table) i idle ≡ getD table i idle
+  unfolding callOf
+  other-records-stand i other =
+      whichever (λ (l : Left). getD (l .table) i idle ≡ getD table i idle) (eqb (gate (length strip) (length table) call) 0)
+      (getD-set-other table (partyOf call) i _ idle other) refl

@@ -14,7 +14,7 @@ use Rattle.party.specs.declared.Answered.{Answered}
 use Rattle.step.specs.Stages.{near}
 use Rattle.step.specs.Step.{maxOf, stepLeaves}
 use Rattle.step.specs.Call.{Call, partyOf, gate, ownOf, ownLeaves, recordOf, callOf}
-use Rattle.step.proofs.Calls.{refused-call-changes-nothing}
+use Rattle.step.proofs.Calls.{refused-call-changes-nothing, other-records-stand}
 use Rattle.step.proofs.Went.{Gone, GoneOn, Went, went}
 use Rattle.table.specs.Lent.{Does, DoesAtMax, alone, blank}
 use Rattle.table.specs.declared.Said.{Said}
@@ -37,12 +37,7 @@ module _ {strip : List ℕ} {table : List Record} {call : Call} where
   -- Every record but the numbered party's is as it was.
   pub others-stand : {said : Said} {words : List ℕ} {left : List Record} → Does strip table call said words left
       → (i : ℕ) → (i ≡ partyOf call → ⊥) → getD left i idle ≡ getD table i idle
-  unfolding callOf
-  others-stand p i other = ap (λ (l : List Record). getD l i idle) (p .records-left) ∙ go (eqb (gate (length strip) (length table) call) 0) refl
-    where
-      go : (clear : Bool) → eqb (gate (length strip) (length table) call) 0 ≡ clear → getD (callOf strip table call .table) i idle ≡ getD table i idle
-      go true e = rw e (getD-set-other table (partyOf call) i _ idle other)
-      go false e = rw e
+  others-stand p i other = ap (λ (l : List Record). getD l i idle) (p .records-left) ∙ other-records-stand strip table call i other
 
 -- A record that is lent alone: what is left of it is settled.
 pub alone-one : {r r′ : Record} → alone r ≡ alone r′ → r ≡ r′
@@ -68,7 +63,7 @@ module _ (strip : List ℕ) (r : Record) (hint i : ℕ) (away : i ≡ r .k → �
   stands-after (GoneOn.pop-4 s p took gone) = stands-where gone (getD-set-other strip (r .k) i _ 0 away)
   stands-after (GoneOn.push-5 s p took gone) = stands-where gone (getD-set-other strip (r .k) i _ 0 away)
   stands-after (GoneOn.pop-5 s p took gone) = stands-where gone (getD-set-other strip (near r) i _ 0 beside)
-  stands-after (GoneOn.loses gone) = stands-where gone refl
+  stands-after (GoneOn.loses place from to then access other gone) = stands-where gone refl
 
   pub other-words-stand : getD (stepLeaves strip r hint) i 0 ≡ getD strip i 0
   other-words-stand = go (went strip r hint)

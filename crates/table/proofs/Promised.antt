@@ -5,16 +5,16 @@ use mathlib.Core.Bool.{Bool, true, false, not, _&&_}
 use mathlib.Core.List.{List}
 use lib.ListN.{length, getD, set, length-replicate}
 use lib.Dec.{leb, ltb}
-use borrow.Author.Tests.{eq-eqb, ne-eqb, leb-true, leb-false, le-leb, lt-leb}
+use borrow.Author.Tests.{leb-true, leb-false, le-leb, lt-leb}
 use native.Mathlib.Omega.{arith}
-use Rattle.logic.proofs.Bools.{passed}
 use Rattle.party.specs.Record.{idle}
 use Rattle.party.specs.Answer.{Gives}
 use Rattle.party.specs.Calls.{maxFits, startOf, startRefusal, withdrawOf, withdrawRefusal}
 use Rattle.party.specs.declared.Record.{Record}
 use Rattle.party.specs.declared.Answered.{Answered}
 use Rattle.step.specs.Step.{stripFits, maxOf, stepOf, stepLeaves, stepRefusal}
-use Rattle.step.specs.Call.{Call, partyOf, tableFits, isUnknown, gate, ownOf, ownLeaves, recordOf, callOf}
+use Rattle.step.specs.Call.{Call, partyOf, gate, ownOf, ownLeaves, recordOf, callOf}
+use Rattle.step.proofs.Called.{past-gate, call-through, call-away}
 use Rattle.table.specs.Said.{toldOf}
 use Rattle.table.specs.Lent.{Does, DoesAtMax, alone, blank}
 use Rattle.table.specs.declared.Told.{Told}
@@ -22,33 +22,23 @@ use Rattle.table.specs.declared.Told.{Told}
 pub told-by : {wanted got : Answered} → Gives wanted got → toldOf got ≡ toldOf wanted
 told-by gives = simp (gives .number, gives .carried, gives .rec)
 
--- the party number is below the count where every check passes
-pub gate-passes : (words parties : ℕ) (call : Call) → gate words parties call ≡ 0 → partyOf call < parties
-unfolding gate
-gate-passes words parties call none =
-    let past1 = passed (not (stripFits words && tableFits parties)) 0 _ none in
-    let past11 = passed (isUnknown call) 10 _ (past1 .1) in
-    leb-false parties (partyOf call) (passed (leb parties (partyOf call)) 2 0 (past11 .1) .0)
-
 module _ (strip : List ℕ) (table : List Record) (call : Call) where
   abbrev number : ℕ
   number = gate (length strip) (length table) call
 
   -- the checks refuse: their number, and nothing is written
   pub turned-away : (n : ℕ) → n ≡ number → (n ≡ 0 → ⊥) → Does strip table call (record { number = n; carried = 0 }) strip table
-  unfolding callOf
   turned-away n e some =
-      let test = ne-eqb number 0 (λ none. some (e ∙ none)) in
-      record { says = simp (e, test); words-left = simp test; records-left = simp test }
+      let away = call-away strip table call (λ none. some (e ∙ none)) in
+      record { says = simp (e, away); words-left = simp away; records-left = simp away }
 
   -- they pass: what the call by value told of the party's record
   pub let-through : (t : Told) (words : List ℕ) → number ≡ 0
       → t ≡ toldOf (ownOf strip (recordOf table call) call) → words ≡ ownLeaves strip (recordOf table call) call
       → Does strip table call (t .said) words (set table (partyOf call) (t .rec))
-  unfolding callOf
   let-through t words none told left =
-      let test = eq-eqb number 0 none in
-      record { says = simp (told, test); words-left = simp (left, test); records-left = simp (told, test) }
+      let through = call-through strip table call none in
+      record { says = simp (told, through); words-left = simp (left, through); records-left = simp (told, through) }
 
 -- A record that is lent alone: the checks of the call by value are those of the table of one.
 pub step-alone : (strip : List ℕ) (r : Record) (hint : ℕ) (t : Told) (words : List ℕ)
@@ -68,7 +58,7 @@ module _ (strip : List ℕ) (table : List Record) (party hint g : ℕ) (checked 
   step-checked = checked
 
   pub step-within : g ≡ 0 → party < length table
-  step-within none = gate-passes (length strip) (length table) (Call.step party 0) (sym checked ∙ none)
+  step-within none = past-gate (length strip) (length table) (Call.step party 0) (sym checked ∙ none) .party-known
 
   pub step-turned-away : (g ≡ 0 → ⊥) → Does strip table (Call.step party hint) (record { number = g; carried = 0 }) strip table
   step-turned-away = turned-away strip table (Call.step party hint) g step-checked
@@ -98,7 +88,7 @@ module _ (max : ℕ) (table : List Record) (party operation order g : ℕ) (chec
   start-checked = rw blank-words checked
 
   pub start-within : g ≡ 0 → party < length table
-  start-within none = gate-passes (max + 2) (length table) (Call.start party operation 0) (sym checked ∙ none)
+  start-within none = past-gate (max + 2) (length table) (Call.start party operation 0) (sym checked ∙ none) .party-known
 
   pub start-turned-away : (g ≡ 0 → ⊥) → DoesAtMax max table (Call.start party operation order) (record { number = g; carried = 0 }) table
   start-turned-away = turned-away (blank max) table (Call.start party operation order) g start-checked
@@ -114,7 +104,7 @@ module _ (max : ℕ) (table : List Record) (party g : ℕ) (checked : g ≡ gate
   withdraw-checked = rw blank-words checked
 
   pub withdraw-within : g ≡ 0 → party < length table
-  withdraw-within none = gate-passes (max + 2) (length table) (Call.withdraw party) (sym checked ∙ none)
+  withdraw-within none = past-gate (max + 2) (length table) (Call.withdraw party) (sym checked ∙ none) .party-known
 
   pub withdraw-turned-away : (g ≡ 0 → ⊥) → DoesAtMax max table (Call.withdraw party) (record { number = g; carried = 0 }) table
   withdraw-turned-away = turned-away (blank max) table (Call.withdraw party) g withdraw-checked

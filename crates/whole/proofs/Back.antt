@@ -10,6 +10,7 @@ use borrow.Author.Tests.{eq-eqb, le-leb, le-ltb, not-false}
 use native.Mathlib.Omega.{arith}
 use Rattle.logic.specs.Every.{Every}
 use Rattle.logic.proofs.Bools.{passed}
+use Rattle.word.specs.Word.{IsWord}
 use Rattle.party.specs.Record.{idle}
 use Rattle.party.specs.declared.Record.{Record}
 use Rattle.step.specs.Step.{maxOf}
@@ -20,7 +21,7 @@ use Rattle.image.specs.Format.{recordPlace, lengthOf, isMarked, maxAt, partiesA
 use Rattle.image.specs.Spelling.{stripOf, tableOf, wordsFrom, recordAt, recordsFrom, wordBytes, recordBytes, RecordFits}
 use Rattle.image.specs.Calls.{headerBytes}
 use Rattle.image.proofs.Parts.{partsFrom, same-parts, part-at, laid-parts-read}
-use Rattle.image.proofs.Words.{WordFits, wordPart, words-are-parts, words-laid-are-parts}
+use Rattle.image.proofs.Words.{wordPart, words-are-parts, words-laid-are-parts}
 use Rattle.image.proofs.Records.{recordPart, same-record, laid-record-read, records-are-parts}
 use Rattle.whole.specs.Whole.{allBelow, isSound, readRefusal, ReadPromise, sizesAgree, isValidIn, partyBytes, tableBytes, writeRefusal, writtenOf, WritePromise}
 use Rattle.whole.proofs.Below.{each-below, all-of-each}
@@ -113,7 +114,7 @@ module _ (strip : List ℕ) (table : List Record) (right : Lent (length strip) (
   as-laid : bytes ≡ sets worded (8 + 8 * length strip) (tableBytes table)
   as-laid = sym (written-laid bytes strip table (length-written strip table))
 
-  pub strip-is-read : Every WordFits 0 strip → stripOf bytes ≡ strip
+  pub strip-is-read : Every IsWord 0 strip → stripOf bytes ≡ strip
   strip-is-read fit =
       ap (wordsFrom bytes 8) words-are ∙ words-are-parts (length strip) bytes 8
       ∙ ap (λ (l : List ℕ). partsFrom wordPart l 8 (length strip)) as-laid
@@ -158,7 +159,7 @@ module _ (strip : List ℕ) (table : List Record) (right : Lent (length strip) (
 
 -- A strip and a table that `write` takes, read from the bytes it left into a strip and a table of their lengths, are the same.
 pub written-then-read-is-the-same : (image strip : List ℕ) (table : List Record) (bytes strip′ : List ℕ) (table′ : List Record) (number : ℕ) (words : List ℕ) (records : List Record)
-    → Every WordFits 0 strip → Every RecordFits idle table → WritePromise image strip table 0 bytes
+    → Every IsWord 0 strip → Every RecordFits idle table → WritePromise image strip table 0 bytes
     → length strip′ ≡ length strip → length table′ ≡ length table → ReadPromise bytes strip′ table′ number words records
     → (number ≡ 0) × ((words ≡ strip) × (records ≡ table))
 unfolding writeRefusal

@@ -1,6 +1,7 @@
 use mathlib.Core.Path.{sym, _∙_}
 use Rattle.party.proofs.Gives.{gives}
-use Rattle.schedule.proofs.Turns.{turned-away, let-through, gate-fits}
+use Rattle.step.proofs.Called.{past-gate}
+use Rattle.schedule.proofs.Turns.{turned-away, let-through}
 use borrow.Author.Needs.{needs}
 use Rattle.schedule.proofs.run.answered.Statement.{statement}
 use Rattle.schedule.proofs.run.answered.Tie as tie
@@ -22,7 +23,7 @@ returns c =
 own-requires : tie.Need-own-requires
 own-requires c κs =
     let asked = c .before .before in
-    gate-fits _ _ _ (sym (asked .gate-of .ensures) ∙ c .before .if1 .left)
+    past-gate _ _ _ (sym (asked .gate-of .ensures) ∙ c .before .if1 .left) .strip-fits
 
 same-length : tie.Need-same-length
 same-length c = search needs
