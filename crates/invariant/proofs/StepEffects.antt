@@ -15,7 +15,7 @@ use Rattle.swaps.proofs.Stale.{Wins}
 use Rattle.swaps.proofs.Facts.{values-kept}
 use Rattle.party.specs.Operation.{isPush}
 use Rattle.party.specs.Valid.{placeFits, atWall}
-use Rattle.party.specs.Answer.{numberOf, carriedOf, goingOn, ends}
+use Rattle.party.specs.Answer.{numberOf, goingOn, ends}
 use Rattle.party.specs.declared.Record.{Record}
 use Rattle.party.specs.declared.Answer.{Answer}
 use Rattle.party.specs.declared.Answered.{Answered}

@@ -3,7 +3,7 @@ use Prim.Native.Nat.{ℕ, _+_, _-_, _≤_}
 use mathlib.Core.Path.{_≡_, refl, sym, _∙_, ap, subst}
 use mathlib.Core.Bool.{Bool, true, false}
 use mathlib.Core.List.{List, [], _∷_, _++_}
-use lib.ListN.{length, getD, take, drop, length-append, length-take, length-drop}
+use lib.ListN.{length, length-append, length-take, length-drop}
 use lib.Seq.{take-append-seam, getD-append-seam}
 use native.Mathlib.Omega.{arith}
 use Rattle.party.specs.Operation.{isRight, isPush}

@@ -1,6 +1,6 @@
 -- What a call answers is a number of document 01's table, of two digits at most, and no call alters the strip's length.
 use Prim.Native.Nat.{ℕ, _≤_}
-use mathlib.Core.Path.{_≡_, ap}
+use mathlib.Core.Path.{_≡_}
 use mathlib.Core.Logic.{inl, inr}
 use mathlib.Core.List.{List}
 use lib.ListN.{length}

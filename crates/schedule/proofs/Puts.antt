@@ -1,7 +1,7 @@
 -- Text written behind text.
-use Prim.Native.Nat.{ℕ, suc, _+_, _<_}
-use mathlib.Core.Path.{_≡_, refl, sym, _∙_, ap}
-use mathlib.Core.List.{List, [], _∷_, _++_}
+use Prim.Native.Nat.{ℕ, _+_, _<_}
+use mathlib.Core.Path.{_≡_, refl, sym, _∙_}
+use mathlib.Core.List.{List, [], _++_}
 use lib.ListN.{length, getD, take, set, length-append}
 use lib.Seq.{sets, take-suc, length-take-le}
 use native.Mathlib.Omega.{arith}

@@ -1,13 +1,12 @@
 -- What the answer of a swap tells of the word it met, and what it wrote.
 use Prim.Native.Nat.{ℕ, _<_}
-use mathlib.Core.Path.{_≡_, refl, sym, _∙_}
+use mathlib.Core.Path.{_≡_, refl}
 use mathlib.Core.Bool.{Bool, true, false}
 use lib.Dec.{eqb}
 use borrow.Author.Tests.{eqb-true, eqb-false}
 use native.Mathlib.Omega.{arith}
 use Rattle.word.specs.Word.{IsWord, valueOf, counterOf, lastCounter, raisedTo}
 use Rattle.word.specs.Swap.{swapOf}
-use Rattle.word.specs.declared.Swapped.{Swapped}
 use Rattle.word.specs.declared.Swapped.the-variants.{Won, Lost, Stuck}
 
 -- A swap that won met the word it expected, and that word's counter was not at its end.
