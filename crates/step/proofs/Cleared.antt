@@ -65,7 +65,7 @@ place-is P r at-k at-near =
     (whichever Q (eqb (r .stage) 2) at-k
     (whichever Q (eqb (r .stage) 3) at-near
     (whichever Q (eqb (r .stage) 4) (whichever Q push at-near at-k)
-    (whichever Q (eqb (r .stage) 5) (whichever Q push at-k at-near) at-k))))
+    (whichever Q (eqb (r .stage) 5) (whichever Q push at-k at-near) at-near))))
   where
     Q : Access → Type 0
     Q access = P (placeOf access)

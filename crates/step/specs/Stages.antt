@@ -38,4 +38,4 @@ accessOf r =
     (pick (isPush (r .operation)) (Swap (near r) (r .first) (valueOf (r .first)) Onward) (Swap (r .k) (r .second) (own r) Onward))
     (pick (eqb (r .stage) 5)
     (pick (isPush (r .operation)) (Swap (r .k) (r .second) (r .v) Push) (Swap (near r) (r .first) (own r) Pop))
-    (Look (r .k) Judge)))))
+    (Look (near r) Remember)))))

@@ -30,6 +30,6 @@ pub fn access(r: Record) -> Access
             _ => Access::Swap(near, r.first, own, AfterSwap::Pop),
         },
         // no valid record comes here
-        _ => Access::Look(k, AfterLook::Judge),
+        _ => Access::Look(near, AfterLook::Remember),
     }
 }

@@ -56,7 +56,7 @@ returns-8 : tie.Need-returns-8
 unfolding accessOf
 returns-8 c =
     let none = c .match .rest in
-    simp (ne-eqb _ _ (none .0 .0 .0 .0 .1), ne-eqb _ _ (none .0 .0 .0 .1), ne-eqb _ _ (none .0 .0 .1), ne-eqb _ _ (none .0 .1), ne-eqb _ _ (none .1))
+    simp (c .before .before .neighbour-of .ensures, ne-eqb _ _ (none .0 .0 .0 .0 .1), ne-eqb _ _ (none .0 .0 .0 .1), ne-eqb _ _ (none .0 .0 .1), ne-eqb _ _ (none .0 .1), ne-eqb _ _ (none .1))
 
 pub access-spec : {M : Type 1} → statement M
 access-spec =
