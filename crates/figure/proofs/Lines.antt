@@ -187,4 +187,4 @@ each-step-is-the-figures-line strip r hint right fits goes = go (step-checked (l
         let is-1 : r .operation ≡ 1 = omega (arith, ltb-true (r .operation) 2 right, eqb-false (r .operation) 0 o) in
         pop-is-its-line strip r hint fits is-1 (clear .busy) (valid-at _ r (clear .valid)) passes goes
     go (Checked.some refused) push o =
-        absurd (true≢false (sym refused ∙ rw (when-refused strip r hint (refusal-is-not-0 number refused) .0) at goes))
+        absurd (true≢false (sym refused ∙ rw (when-refused strip r hint (refusal-is-not-0 number refused) .answered) at goes))

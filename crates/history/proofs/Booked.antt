@@ -13,10 +13,10 @@ use Rattle.party.specs.Record.{idle}
 use Rattle.party.specs.declared.Record.{Record}
 use Rattle.step.specs.Call.{Call, partyOf}
 use Rattle.step.proofs.Calls.{table-stays-as-long}
-use Rattle.history.specs.Run.{State, begin, goesOn, looked, lineOf, leaves}
+use Rattle.history.specs.Run.{State, begin, goesOn, looked, lineOf, leaves, numberIn}
 use Rattle.history.specs.Finished.{Asked, nothingYet, askedAfter}
 use Rattle.logic.proofs.Lists.{all-the-same}
-use Rattle.history.proofs.Parties.{numberIn, looksNow, After, after-entry, look-after}
+use Rattle.history.proofs.Parties.{looksNow, After, after-entry, look-after}
 
 pub record Asks (n : ℕ) (a : Asked) (r : Record) : Type 0 where
   pub operation : a .operation ≡ r .operation

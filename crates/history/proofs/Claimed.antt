@@ -14,11 +14,10 @@ use Rattle.logic.specs.Pick.{pick}
 use Rattle.logic.specs.Every.{Every}
 use Rattle.party.specs.Record.{idle}
 use Rattle.step.specs.Call.{Call, partyOf}
-use Rattle.history.specs.Run.{State, lineOf, leaves}
+use Rattle.history.specs.Run.{State, lineOf, leaves, numberIn}
 use Rattle.history.specs.Finished.{Asked, Finished, nothingYet, isResult, finish, finishedAt}
 use Rattle.history.specs.Explained.{Between, none}
 use Rattle.logic.proofs.Lists.{every-one, every-append}
-use Rattle.history.proofs.Parties.{numberIn}
 use Rattle.history.proofs.Results.{Ended, looked-before, a-result-ends}
 use Rattle.history.proofs.Booked.{Booked, LastLook, last-look}
 

@@ -21,9 +21,9 @@ use Rattle.invariant.proofs.Writes.{strip-stays-as-long}
 use Rattle.invariant.proofs.CallEffects.{CallEffect, call-effect}
 use Rattle.invariant.proofs.Looks.{idle-remembers}
 use Rattle.invariant.proofs.Remembers.{look-remembers, remembers-kept}
-use Rattle.history.specs.Run.{State, leaves, looked}
+use Rattle.history.specs.Run.{State, leaves, looked, numberIn}
 use Rattle.logic.proofs.Lists.{all-the-same}
-use Rattle.history.proofs.Parties.{numberIn, looksNow, look-is-a-step, step-looks-now}
+use Rattle.history.proofs.Parties.{looksNow, look-is-a-step, step-looks-now}
 use Rattle.history.proofs.Machine.{Says, thensAfter, Goes, Machine}
 
 pub record Keeps (s : State) (p : Plain) (thens : ℕ → Plain) : Type 0 where

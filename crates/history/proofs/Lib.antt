@@ -1,5 +1,5 @@
 -- What one entry does to each party: its record, what it was last asked, its last look
-pub mod Stepped
+pub mod Own
 pub mod Parties
 pub mod Results
 -- A run entry by entry, with what is booked of each party and claimed by each effect

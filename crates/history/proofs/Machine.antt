@@ -12,9 +12,9 @@ use Rattle.step.specs.Call.{Call, Fitting, partyOf, recordOf, callOf}
 use Rattle.plain.specs.Plain.{Plain}
 use Rattle.strip.specs.Shape.{StandsFor}
 use Rattle.invariant.specs.Remembered.{RecordYields}
-use Rattle.history.specs.Run.{State, begin, leaves}
+use Rattle.history.specs.Run.{State, begin, leaves, numberIn}
 use Rattle.history.specs.Finished.{isResult}
-use Rattle.history.proofs.Parties.{numberIn, looksNow}
+use Rattle.history.proofs.Parties.{looksNow}
 
 -- A call that ends no operation leaves the plain strip. PUSHED and POPPED are what the record's operation gives on it now; FULL and
 -- EMPTY what it gave, and left, at the party's last look.

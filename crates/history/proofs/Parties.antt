@@ -12,21 +12,15 @@ use native.Mathlib.Omega.{arith}
 use Rattle.logic.specs.Pick.{pick}
 use Rattle.logic.proofs.Bools.{both, whichever}
 use Rattle.party.specs.Record.{idle, begun}
-use Rattle.party.specs.Answer.{isRefusal, numberOf}
+use Rattle.party.specs.Answer.{isRefusal}
 use Rattle.party.specs.declared.Record.{Record}
-use Rattle.party.specs.declared.Answered.{Answered}
-use Rattle.party.specs.declared.Answer.{Answer}
-use Rattle.party.specs.declared.Answer.the-variants.{GoesOn}
 use Rattle.party.proofs.Refusals.{refusal-is-not-0}
-use Rattle.step.specs.Step.{stepOf, stepLeaves}
-use Rattle.step.specs.Call.{Call, partyOf, callOf}
-use Rattle.step.proofs.Cleared.{Steppable}
+use Rattle.step.specs.Call.{Call, partyOf}
 use Rattle.step.proofs.Calls.{other-records-stand}
-use Rattle.step.proofs.Went.{GoneOn}
-use Rattle.step.proofs.Called.{Leaves, Called, called}
-use Rattle.history.specs.Run.{State, goesOn, isStep, looked, lineOf, leaves}
+use Rattle.step.proofs.Stepped.{Stepped}
+use Rattle.history.specs.Run.{State, goesOn, isStep, looked, lineOf, leaves, numberIn}
 use Rattle.history.specs.Finished.{Asked, nothingYet, askedAfter}
-use Rattle.history.proofs.Stepped.{Stepped, stepped}
+use Rattle.history.proofs.Own.{Own, own}
 
 -- a refusal does not go on
 refusal-stops : (number : ℕ) → isRefusal number ≡ true → goesOn number ≡ false
@@ -37,9 +31,6 @@ stops-unlooked : (s : State) (call : Call) (number : ℕ) → goesOn number ≡ 
 stops-unlooked s (Call.start party operation order) number e = refl
 stops-unlooked s (Call.step party hint) number e = rw e refl
 stops-unlooked s (Call.withdraw party) number e = refl
-
-abbrev pub numberIn : State → Call → ℕ
-numberIn s call = numberOf (callOf (s .strip) (s .table) call .answer)
 
 -- a party that looks makes a step that goes on
 pub look-is-a-step : (s : State) (call : Call) → looked s call (numberIn s call) ≡ true
@@ -97,15 +88,17 @@ module _ (s : State) (entry : ℕ) where
 
   -- only a step of a known party looks
   looked-known : (call : Call) → looked s call (numberIn s call) ≡ true → partyOf call < length (s .table)
-  looked-known call looks = go (called (s .strip) (s .table) call)
+  looked-known call looks = go (own s entry call)
     where
-      go : Called (s .strip) (s .table) call → partyOf call < length (s .table)
-      go (Called.refuses number refusal left) =
-          let stops = refusal-stops (numberIn s call) (ap (λ (a : Answer). isRefusal (numberOf a)) (left .answered) ∙ refusal) in
-          absurd (true≢false (sym looks ∙ stops-unlooked s call (numberIn s call) stops))
-      go (Called.starts party operation order is known clear left) = rw is known
-      go (Called.withdraws party is known left) = rw is known
-      go (Called.steps party hint is known clear on left) = rw is known
+      step : isStep call ≡ true
+      step = let is = look-is-a-step s call looks in ap isStep (is .1)
+
+      go : Own s entry call → partyOf call < length (s .table)
+      go (Own.refused refusal same) =
+          absurd (true≢false (sym looks ∙ stops-unlooked s call (numberIn s call) (refusal-stops (numberIn s call) refusal)))
+      go (Own.begins operation order is known none begun-is) = known
+      go (Own.withdrawn other none ended) = absurd (true≢false (sym step ∙ other))
+      go (Own.steps hint is known busy how) = known
 
   -- the last look of each party
   pub look-after : length (s .looks) ≡ length (s .table) → (call : Call) (i : ℕ)
@@ -158,68 +151,27 @@ module _ (s : State) (entry : ℕ) where
     The call i =
         After s entry call i (getD asked i nothingYet) (getD (askedThen call) i nothingYet) (recordAt i) (recordThen call i)
 
-    start-after : (party operation order : ℕ) → party < length (s .table) → length asked ≡ length (s .table)
-        → Leaves (s .strip) (s .table) (Call.start party operation order) GoesOn (s .strip) (set (s .table) party (begun operation order))
-        → The (Call.start party operation order) party
-    unfolding leaves lineOf
-    start-after party operation order known size left =
-        begins operation order (rw (left .table-is) (getD-set-same (s .table) party (begun operation order) idle known))
-        (rw (left .answered)
-        (getD-set-same asked party (record { operation = operation; order = order; entry = entry }) nothingYet (rw size known)))
-
-    step-after : (party hint : ℕ) → party < length (s .table) → Steppable (length (s .strip)) (recordAt party) hint
-        → GoneOn (s .strip) (recordAt party) hint
-        → Leaves (s .strip) (s .table) (Call.step party hint) (stepOf (s .strip) (recordAt party) hint .answer)
-        (stepLeaves (s .strip) (recordAt party) hint) (set (s .table) party (stepOf (s .strip) (recordAt party) hint .rec))
-        → The (Call.step party hint) party
-    unfolding leaves
-    step-after party hint known clear on left = go (stepped (s .strip) r hint on)
-      where
-        r : Record
-        r = recordAt party
-
-        given : Answered
-        given = stepOf (s .strip) r hint
-
-        leaves-it : getD (callOf (s .strip) (s .table) (Call.step party hint) .table) party idle ≡ given .rec
-        leaves-it = rw (left .table-is) (getD-set-same (s .table) party (given .rec) idle known)
-
-        busy : 1 ≤ r .stage
-        busy = let some = eqb-false (r .stage) 0 (clear .busy) in omega arith
-
-        go : Stepped r given
-            → After s entry (Call.step party hint) party (getD asked party nothingYet) (getD asked party nothingYet) r
-            (getD (callOf (s .strip) (s .table) (Call.step party hint) .table) party idle)
-        go (Stepped.going-on none operation v to-2 to-3) =
-            carries refl (ap (λ (a : Record). a .operation) leaves-it ∙ operation) (ap (λ (a : Record). a .v) leaves-it ∙ v) (λ later. busy)
-            (λ now later. no-look-later (Call.step party hint) refl (ap numberOf (left .answered) ∙ none) busy now)
-        go (Stepped.acting number ended) = idles (leaves-it ∙ ended)
-        go (Stepped.filling number second ended) = idles (leaves-it ∙ ended)
-        go (Stepped.emptying number third ended) = idles (leaves-it ∙ ended)
-
-    withdraw-after : (party : ℕ) → party < length (s .table)
-        → Leaves (s .strip) (s .table) (Call.withdraw party) GoesOn (s .strip) (set (s .table) party idle) → The (Call.withdraw party) party
-    unfolding leaves
-    withdraw-after party known left = idles (rw (left .table-is) (getD-set-same (s .table) party idle idle known))
+    own-after : (call : Call) → length asked ≡ length (s .table) → Own s entry call → The call (partyOf call)
+    unfolding lineOf
+    own-after call size (Own.refused refusal same) =
+        unchanged call (partyOf call) (ap (λ (l : List Asked). getD l (partyOf call) nothingYet) (asked-refused call refusal)) same
+    own-after call size (Own.begins operation order is known none begun-is) =
+        begins operation order begun-is (rw is (rw (rw is at none) (getD-set-same asked (partyOf call) _ nothingYet (rw size known))))
+    own-after call size (Own.withdrawn other none ended) = idles ended
+    own-after call size (Own.steps hint is known busy (Stepped.going-on none operation v to-2 to-3)) =
+        carries (rw is refl) operation v (λ later. busy)
+        (λ now later. no-look-later call (ap isStep is) none busy now)
+    own-after call size (Own.steps hint is known busy (Stepped.acting number ended)) = idles ended
+    own-after call size (Own.steps hint is known busy (Stepped.filling number second ended)) = idles ended
+    own-after call size (Own.steps hint is known busy (Stepped.emptying number third ended)) = idles ended
 
     pub after-entry : length asked ≡ length (s .table) → (call : Call) (i : ℕ)
         → After s entry call i (getD asked i nothingYet) (getD (askedAfter asked entry call (lineOf s entry call)) i nothingYet)
         (getD (s .table) i idle) (getD (leaves s entry call .table) i idle)
-    unfolding leaves lineOf
     after-entry size call i = go (eqb i (partyOf call)) refl
       where
-        own : Called (s .strip) (s .table) call → The call (partyOf call)
-        own (Called.refuses number refusal left) =
-            unchanged call (partyOf call)
-            (ap (λ (l : List Asked). getD l (partyOf call) nothingYet) (asked-refused call (ap (λ (a : Answer). isRefusal (numberOf a)) (left .answered) ∙ refusal)))
-            (ap (λ (l : List Record). getD l (partyOf call) idle) (left .table-is))
-        own (Called.starts party operation order is known clear left) =
-            rw is (start-after party operation order known size (rw is at left))
-        own (Called.withdraws party is known left) = rw is (withdraw-after party known (rw is at left))
-        own (Called.steps party hint is known clear on left) = rw is (step-after party hint known clear on (rw is at left))
-
         go : (here : Bool) → eqb i (partyOf call) ≡ here → The call i
-        go true e = subst (The call) (sym (eqb-true i (partyOf call) e)) (own (called (s .strip) (s .table) call))
+        go true e = subst (The call) (sym (eqb-true i (partyOf call) e)) (own-after call size (own s entry call))
         go false e =
             let other = eqb-false i (partyOf call) e in
             unchanged call i (asked-elsewhere call i other) (record-elsewhere call i other)

@@ -1,25 +1,20 @@
 -- How a party comes to stage 2 or 3, and stays there.
-use Prim.Native.Nat.{ℕ, suc, _<_}
-use mathlib.Core.Path.{_≡_, refl, sym, _∙_, ap}
+use Prim.Native.Nat.{ℕ, suc}
+use mathlib.Core.Path.{_≡_, refl, sym, subst}
 use mathlib.Core.Bool.{Bool, true, false}
 use mathlib.Core.Logic.{_⊎_, inl, inr}
-use lib.ListN.{length, getD, set}
-use lib.Seq.{getD-set-same}
+use lib.ListN.{getD}
 use lib.Dec.{eqb}
 use borrow.Author.Tests.{eqb-true, eqb-false}
 use native.Mathlib.Omega.{arith}
 use Rattle.party.specs.Record.{idle, begun}
-use Rattle.party.specs.Answer.{isRefusal, numberOf}
+use Rattle.party.specs.Answer.{isRefusal}
 use Rattle.party.specs.declared.Record.{Record}
-use Rattle.party.specs.declared.Answer.{Answer}
-use Rattle.party.specs.declared.Answered.{Answered}
-use Rattle.step.specs.Step.{stepOf, stepLeaves}
 use Rattle.step.specs.Call.{Call, partyOf}
-use Rattle.step.proofs.Went.{GoneOn}
-use Rattle.step.proofs.Called.{Leaves, Called, called}
-use Rattle.history.specs.Run.{State, leaves}
-use Rattle.history.proofs.Stepped.{Stepped, stepped}
-use Rattle.history.proofs.Parties.{numberIn, looksNow, step-looks-now, record-elsewhere}
+use Rattle.step.proofs.Stepped.{Stepped}
+use Rattle.history.specs.Run.{State, leaves, numberIn}
+use Rattle.history.proofs.Own.{Own, own}
+use Rattle.history.proofs.Parties.{looksNow, step-looks-now, record-elsewhere}
 
 -- A party that is at stage 2 or 3 after a call: it looks now, from the stage before; or it was there, and no call of its own was taken.
 pub data Since (s : State) (call : Call) (i : ℕ) (r next : Record) : Type 0 where
@@ -50,48 +45,26 @@ module _ (s : State) (entry : ℕ) where
   abbrev recordThen : Call → ℕ → Record
   recordThen call i = getD (leaves s entry call .table) i idle
 
-  step-since : (party hint : ℕ) → party < length (s .table) → GoneOn (s .strip) (recordAt party) hint
-      → Leaves (s .strip) (s .table) (Call.step party hint) (stepOf (s .strip) (recordAt party) hint .answer)
-      (stepLeaves (s .strip) (recordAt party) hint) (set (s .table) party (stepOf (s .strip) (recordAt party) hint .rec))
-      → Early (recordThen (Call.step party hint) party)
-      → Since s (Call.step party hint) party (recordAt party) (recordThen (Call.step party hint) party)
-  unfolding leaves
-  step-since party hint known on left = rw (left .table-is, getD-set-same (s .table) party (given .rec) idle known) (go (stepped (s .strip) r hint on))
-    where
-      r : Record
-      r = recordAt party
-
-      given : Answered
-      given = stepOf (s .strip) r hint
-
-      go : Stepped r given → Early (given .rec) → Since s (Call.step party hint) party r (given .rec)
-      go (Stepped.going-on none operation v to-2 to-3) early =
-          let from = came-from r (given .rec) to-2 to-3 early in
-          now (step-looks-now s party hint (ap numberOf (left .answered) ∙ none) (from .0)) (from .1)
-      go (Stepped.acting number ended) early = absurd (idle-is-not-early (rw ended at early))
-      go (Stepped.filling number second ended) early = absurd (idle-is-not-early (rw ended at early))
-      go (Stepped.emptying number third ended) early = absurd (idle-is-not-early (rw ended at early))
+  own-since : (call : Call) → Own s entry call → Early (recordThen call (partyOf call))
+      → Since s call (partyOf call) (recordAt (partyOf call)) (recordThen call (partyOf call))
+  own-since call (Own.refused refusal same) early = still same (λ mine. refusal)
+  own-since call (Own.begins operation order is known none begun-is) early =
+      absurd (begun-is-not-early operation order (subst Early begun-is early))
+  own-since call (Own.withdrawn other none ended) early = absurd (idle-is-not-early (subst Early ended early))
+  own-since call (Own.steps hint is known busy (Stepped.going-on none operation v to-2 to-3)) early =
+      let from = came-from (recordAt (partyOf call)) (recordThen call (partyOf call)) to-2 to-3 early in
+      now (rw is (step-looks-now s (partyOf call) hint (rw is at none) (from .0))) (from .1)
+  own-since call (Own.steps hint is known busy (Stepped.acting number ended)) early = absurd (idle-is-not-early (subst Early ended early))
+  own-since call (Own.steps hint is known busy (Stepped.filling number second ended)) early =
+      absurd (idle-is-not-early (subst Early ended early))
+  own-since call (Own.steps hint is known busy (Stepped.emptying number third ended)) early =
+      absurd (idle-is-not-early (subst Early ended early))
 
   pub since : (call : Call) (i : ℕ) → Early (recordThen call i) → Since s call i (recordAt i) (recordThen call i)
-  unfolding leaves
   since call i = go (eqb i (partyOf call)) refl
     where
-      The : ℕ → Type 0
-      The j = Early (recordThen call j) → Since s call j (recordAt j) (recordThen call j)
-
-      own : Called (s .strip) (s .table) call → The (partyOf call)
-      own (Called.refuses number refusal left) early =
-          still (rw (left .table-is) refl) (λ mine. ap (λ (a : Answer). isRefusal (numberOf a)) (left .answered) ∙ refusal)
-      own (Called.starts party operation order is known clear left) early =
-          absurd (begun-is-not-early operation order
-          (rw (left .table-is, ap partyOf is, getD-set-same (s .table) party (begun operation order) idle known) at early))
-      own (Called.withdraws party is known left) early =
-          absurd (idle-is-not-early (rw (left .table-is, ap partyOf is, getD-set-same (s .table) party idle idle known) at early))
-      own (Called.steps party hint is known clear on left) early =
-          rw is (step-since party hint known on (rw is at left) (rw is at early))
-
-      go : (here : Bool) → eqb i (partyOf call) ≡ here → The i
-      go true e = rw (eqb-true i (partyOf call) e) (own (called (s .strip) (s .table) call))
-      go false e =
+      go : (here : Bool) → eqb i (partyOf call) ≡ here → Early (recordThen call i) → Since s call i (recordAt i) (recordThen call i)
+      go true e early = rw (eqb-true i (partyOf call) e) (own-since call (own s entry call) (rw (eqb-true i (partyOf call) e) at early))
+      go false e early =
           let other = eqb-false i (partyOf call) e in
-          λ early. still (record-elsewhere s entry call i other) (λ mine. absurd (other (sym mine)))
+          still (record-elsewhere s entry call i other) (λ mine. absurd (other (sym mine)))

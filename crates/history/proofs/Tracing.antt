@@ -13,10 +13,10 @@ use Rattle.step.specs.Call.{Call, partyOf, callOf, recordOf}
 use Rattle.plain.specs.Plain.{Plain}
 use Rattle.invariant.specs.Remembered.{RecordYields}
 use Rattle.placing.specs.Placing.{Adds}
-use Rattle.history.specs.Run.{State, lineOf, looked}
+use Rattle.history.specs.Run.{State, lineOf, looked, numberIn}
 use Rattle.history.specs.Finished.{Asked, Finished, nothingYet, isResult, finish, finishedAt}
 use Rattle.history.specs.Explained.{Agrees}
-use Rattle.history.proofs.Parties.{numberIn, look-is-a-step}
+use Rattle.history.proofs.Parties.{look-is-a-step}
 use Rattle.history.proofs.Results.{looked-before, a-result-ends}
 use Rattle.history.proofs.Booked.{Booked, Asks}
 use Rattle.history.proofs.Machine.{Says}

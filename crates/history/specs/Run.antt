@@ -51,12 +51,15 @@ effectOf s entry call number = pick (eqb number 18 || eqb number 19) (getD (s .l
 abbrev pub after : State → Call → Left
 after s call = callOf (s .strip) (s .table) call
 
+abbrev pub numberIn : State → Call → ℕ
+numberIn s call = numberOf (after s call .answer)
+
 unfoldable pub lineOf : State → (entry : ℕ) → Call → Line
 lineOf s entry call =
     record {
-      number = numberOf (after s call .answer);
+      number = numberIn s call;
       carried = carriedOf (after s call .answer);
-      effect = effectOf s entry call (numberOf (after s call .answer));
+      effect = effectOf s entry call (numberIn s call);
     }
 
 unfoldable pub leaves : State → (entry : ℕ) → Call → State
@@ -64,7 +67,7 @@ leaves s entry call =
     record {
       strip = after s call .strip;
       table = after s call .table;
-      looks = pick (looked s call (numberOf (after s call .answer))) (set (s .looks) (partyOf call) entry) (s .looks);
+      looks = pick (looked s call (numberIn s call)) (set (s .looks) (partyOf call) entry) (s .looks);
     }
 
 -- from entry number `entry` on: the lines, and the state at the end

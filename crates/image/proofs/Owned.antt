@@ -20,7 +20,7 @@ use Rattle.party.specs.declared.Answer.the-variants.{GoesOn}
 use Rattle.party.proofs.Cleared.{max-within}
 use Rattle.step.specs.Stages.{near, accessOf}
 use Rattle.step.specs.Follow.{lookedOf, swappedOf}
-use Rattle.step.specs.Step.{maxOf, stepOwn, stepRefusal, aimed, stepOf, stepLeaves}
+use Rattle.step.specs.Step.{maxOf, stepOwn, stepRefusal, aimed}
 use Rattle.step.specs.Call.{Call}
 use Rattle.step.specs.declared.Access.{Access}
 use Rattle.step.specs.declared.Access.the-variants.{Look, Swap}
@@ -28,7 +28,7 @@ use Rattle.step.specs.declared.AfterLook.{AfterLook}
 use Rattle.step.specs.declared.AfterLook.the-variants.{Remember}
 use Rattle.step.specs.declared.AfterSwap.{AfterSwap}
 use Rattle.step.proofs.Cleared.{Steppable, steppable, placeOf, place-inside, hint-fits-k}
-use Rattle.step.proofs.Accesses.{when-refused, when-looks, when-swaps}
+use Rattle.step.proofs.Accesses.{Gone, when-refused, when-looks, when-swaps}
 use Rattle.step.proofs.EachStage.{aimed-later}
 use Rattle.little.specs.Bytes.{numberAt}
 use Rattle.image.specs.Format.{wordPlace, maxAt}
@@ -110,7 +110,7 @@ module _ (image : List ℕ) (party hint : ℕ) (are : AreBytes image) (clear : n
       → imageOf image stepping ≡ unchanged (stepOwn (maxAt image) before hint) image
   step-refused some =
       let step = when-refused (stripOf image) before hint (λ e. some (sym step-own-is ∙ e)) in
-      own-refused image stepping are clear _ (step .0 ∙ ap (λ (n : ℕ). refused n before) step-own-is, step .1)
+      own-refused image stepping are clear _ (step .answered ∙ ap (λ (n : ℕ). refused n before) step-own-is, step .words)
 
   module _ (none : stepOwn (maxAt image) before hint ≡ 0) where
     passes : stepRefusal (length (stripOf image)) before hint ≡ 0
@@ -139,9 +139,9 @@ module _ (image : List ℕ) (party hint : ℕ) (are : AreBytes image) (clear : n
       step-looked place then access =
           let word = numberAt 8 image (wordPlace place) in
           let seen = word-is-read image place (access-inside (Look place then) access) in
-          let step = when-looks (stripOf image) before at hint passes a place then word access (sym seen) in
+          let step = when-looks (stripOf image) before hint at passes a place then word access (sym seen) in
           own-recorded image stepping are clear tt (lookedOf (maxAt image) at then word)
-          (sym (step .0) ∙ ap (λ (max : ℕ). lookedOf max at then word) (max-of image), sym (step .1))
+          (step .answered ∙ ap (λ (max : ℕ). lookedOf max at then word) (max-of image), step .words)
 
       pub step-swapped : (place from to : ℕ) (then : AfterSwap) → accessOf at ≡ Swap place from to then
           → imageOf image stepping ≡ record {
@@ -160,12 +160,11 @@ module _ (image : List ℕ) (party hint : ℕ) (are : AreBytes image) (clear : n
           }
 
           owned : (met : Swapped) → metAt image place from ≡ met
-              → (swappedOf at then met ≡ stepOf (stripOf image) before hint)
-              × (wordsAfter met (stripOf image) place (raisedTo from to) ≡ stepLeaves (stripOf image) before hint)
+              → Gone (stripOf image) before hint (swappedOf at then met) (wordsAfter met (stripOf image) place (raisedTo from to))
           owned met e =
               let same : met ≡ swapOf (getD (stripOf image) place 0) from =
               sym e ∙ ap (λ (w : ℕ). swapOf w from) (sym (word-is-read image place inside)) in
-              when-swaps (stripOf image) before at hint passes a place from to then met
+              when-swaps (stripOf image) before hint at passes a place from to then met
               (wordsAfter met (stripOf image) place (raisedTo from to)) access
               (record { answered = same; words = ap (λ (t : Swapped). wordsAfter t (stripOf image) place (raisedTo from to)) same })
 
@@ -173,13 +172,13 @@ module _ (image : List ℕ) (party hint : ℕ) (are : AreBytes image) (clear : n
           go (SwapGoes.won took e) =
               let step = owned Won e in
               subst Went (sym e)
-              (own-swapped image stepping are clear tt (swappedOf at then Won) place (raisedTo from to) (sym (step .0), sym (step .1)) inside)
+              (own-swapped image stepping are clear tt (swappedOf at then Won) place (raisedTo from to) (step .answered, step .words) inside)
           go (SwapGoes.lost other e) =
               let met = numberAt 8 image (wordPlace place) in
               let step = owned (Lost met) e in
               subst Went (sym e)
-              (own-recorded image stepping are clear tt (swappedOf at then (Lost met)) (sym (step .0), sym (step .1)))
+              (own-recorded image stepping are clear tt (swappedOf at then (Lost met)) (step .answered, step .words))
           go (SwapGoes.stuck same ended e) =
               let step = owned Stuck e in
               let later = aimed-later before hint (λ s. swap-is-later at place from to then access (ap (λ (r : Record). r .stage) a ∙ s)) in
-              subst Went (sym e) (own-refused image stepping are clear 9 (sym (step .0) ∙ ap (refused 9) (a ∙ sym later), sym (step .1)))
+              subst Went (sym e) (own-refused image stepping are clear 9 (step .answered ∙ ap (refused 9) (a ∙ sym later), step .words))

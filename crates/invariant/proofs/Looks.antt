@@ -19,7 +19,8 @@ use Rattle.party.specs.declared.Answer.the-variants.{GoesOn}
 use Rattle.step.specs.Stages.{near, own, far}
 use Rattle.step.specs.Step.{stripFits, maxOf, stepOf, stepLeaves}
 use Rattle.step.proofs.Cleared.{Steppable}
-use Rattle.step.proofs.Went.{Gone, GoneOn}
+use Rattle.step.proofs.Accesses.{Gone}
+use Rattle.step.proofs.Went.{GoneOn}
 use Rattle.plain.specs.Plain.{Plain}
 use Rattle.strip.specs.Shape.{StandsFor}
 use Rattle.strip.proofs.Shapes.{stands-for-bounds, strip-length}

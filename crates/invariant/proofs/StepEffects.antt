@@ -23,7 +23,8 @@ use Rattle.party.specs.declared.Answer.the-variants.{GoesOn, Pushed, Popped, Fu
 use Rattle.party.proofs.Stages.{stage-3-fits, stage-5-fits}
 use Rattle.step.specs.Stages.{near, own, far, atPlace, atNear}
 use Rattle.step.specs.Step.{stripFits, maxOf, stepOf, stepLeaves}
-use Rattle.step.proofs.Went.{Gone, GoneOn}
+use Rattle.step.proofs.Accesses.{Gone}
+use Rattle.step.proofs.Went.{GoneOn}
 use Rattle.plain.specs.Plain.{Plain}
 use Rattle.plain.specs.Play.{added, removed, Yields}
 use Rattle.plain.proofs.Ways.{yields-pushed, yields-full, yields-popped, yields-empty}

@@ -11,7 +11,8 @@ use Rattle.party.specs.declared.Record.{Record}
 use Rattle.party.specs.declared.Answered.{Answered}
 use Rattle.step.specs.Step.{stripFits, maxOf, stepOf, stepLeaves}
 use Rattle.step.proofs.Kept.{step-keeps-valid}
-use Rattle.step.proofs.Went.{Gone, GoneOn}
+use Rattle.step.proofs.Accesses.{Gone}
+use Rattle.step.proofs.Went.{GoneOn}
 use Rattle.invariant.specs.Invariant.{Sound, Sane}
 use Rattle.invariant.proofs.Moves.{early-sound, idle-sound, second-stage-sound, judged-sound, rechecked-sound}
 use Rattle.invariant.proofs.Sanity.{set-early-sane}

@@ -8,19 +8,18 @@ use native.Mathlib.Omega.{arith}
 use Rattle.party.specs.Answer.{numberOf}
 use Rattle.party.specs.declared.Record.{Record}
 use Rattle.party.specs.declared.Answer.{Answer}
-use Rattle.party.specs.declared.Answered.{Answered}
 use Rattle.party.proofs.Refusals.{refusal-is-small}
 use Rattle.step.specs.Call.{Call, callOf}
+use Rattle.step.proofs.Stepped.{Stepped, stepped}
 use Rattle.step.proofs.Called.{Leaves, Called, called}
 use Rattle.invariant.proofs.Writes.{strip-stays-as-long}
-use Rattle.history.proofs.Stepped.{Stepped, stepped}
 
-stepped-bounded : (r : Record) (given : Answered) → Stepped r given → numberOf (given .answer) ≤ 19
-stepped-bounded r given (Stepped.going-on none operation v to-2 to-3) = omega arith
-stepped-bounded r given (Stepped.acting (inl number) ended) = omega arith
-stepped-bounded r given (Stepped.acting (inr number) ended) = omega arith
-stepped-bounded r given (Stepped.filling number second ended) = omega arith
-stepped-bounded r given (Stepped.emptying number third ended) = omega arith
+stepped-bounded : {r next : Record} {number : ℕ} → Stepped r next number → number ≤ 19
+stepped-bounded (Stepped.going-on number operation v to-2 to-3) = omega arith
+stepped-bounded (Stepped.acting (inl number) ended) = omega arith
+stepped-bounded (Stepped.acting (inr number) ended) = omega arith
+stepped-bounded (Stepped.filling number second ended) = omega arith
+stepped-bounded (Stepped.emptying number third ended) = omega arith
 
 pub call-bounded : (strip : List ℕ) (table : List Record) (call : Call)
     → (numberOf (callOf strip table call .answer) ≤ 19) × (length (callOf strip table call .strip) ≡ length strip)
@@ -34,4 +33,4 @@ call-bounded strip table call = (go (called strip table call), strip-stays-as-lo
     go (Called.refuses number refusal left) = so left (let small = refusal-is-small number refusal in omega arith)
     go (Called.starts party operation order is known clear left) = so left (omega arith)
     go (Called.withdraws party is known left) = so left (omega arith)
-    go (Called.steps party hint is known clear on left) = so left (stepped-bounded _ _ (stepped strip _ hint on))
+    go (Called.steps party hint is known clear on left) = so left (stepped-bounded (stepped strip _ hint on))

@@ -2,6 +2,7 @@
 use Prim.Native.Nat.{ℕ}
 use mathlib.Core.Path.{_≡_, refl, sym, _∙_, ap}
 use mathlib.Core.Bool.{true, false, not, _&&_, true≢false}
+use mathlib.Core.Logic.{inl, inr}
 use mathlib.Core.List.{List}
 use lib.ListN.{length}
 use lib.Dec.{eqb}
@@ -18,7 +19,9 @@ use Rattle.party.proofs.Kept.{idle-is-valid}
 use Rattle.party.proofs.Stages.{ValidAt, at-valid, stage-1-fits, stage-2-fits, stage-3-fits, stage-4-fits, busy-fits}
 use Rattle.step.specs.Step.{maxOf, stepOf, stepLeaves, StepPromise}
 use Rattle.step.proofs.Cleared.{Steppable}
-use Rattle.step.proofs.Went.{Gone, GoneOn, Went, went}
+use Rattle.step.proofs.Accesses.{Gone}
+use Rattle.step.proofs.Went.{GoneOn, Went, went}
+use Rattle.step.proofs.Stepped.{Stepped, stepped}
 
 -- Two results that keep the promise have the same number, carried order, record and words.
 pub two-steps-that-keep-it-are-equal : {strip : List ℕ} {r : Record} {hint : ℕ} {one two : Answered} {left other : List ℕ}
@@ -26,24 +29,16 @@ pub two-steps-that-keep-it-are-equal : {strip : List ℕ} {r : Record} {hint : �
 two-steps-that-keep-it-are-equal p q = (two-that-keep-it-are-equal (p .gives) (q .gives), q .words ∙ sym (p .words))
 
 module _ (strip : List ℕ) (r : Record) (hint : ℕ) where
-  -- the number that the given answer has is the step's
-  number-is : {given : Answered} {left : List ℕ} → Gone strip r hint given left
-      → isRefusal (numberOf (stepOf strip r hint .answer)) ≡ isRefusal (numberOf (given .answer))
-  number-is gone = ap (λ (a : Answered). isRefusal (numberOf (a .answer))) (gone .answered)
-
   pub going-on-is-no-refusal : GoneOn strip r hint → isRefusal (numberOf (stepOf strip r hint .answer)) ≡ false
-  going-on-is-no-refusal (GoneOn.remembers s gone) = number-is gone
-  going-on-is-no-refusal (GoneOn.drops s d gone) = number-is gone
-  going-on-is-no-refusal (GoneOn.fills s d w gone) = number-is gone
-  going-on-is-no-refusal (GoneOn.doubts s d f gone) = number-is gone
-  going-on-is-no-refusal (GoneOn.readies s d w f gone) = number-is gone
-  going-on-is-no-refusal (GoneOn.empties s e gone) = number-is gone
-  going-on-is-no-refusal (GoneOn.rechecks s e gone) = number-is gone
-  going-on-is-no-refusal (GoneOn.push-4 s p t gone) = number-is gone
-  going-on-is-no-refusal (GoneOn.pop-4 s p t gone) = number-is gone
-  going-on-is-no-refusal (GoneOn.push-5 s p t gone) = number-is gone
-  going-on-is-no-refusal (GoneOn.pop-5 s p t gone) = number-is gone
-  going-on-is-no-refusal (GoneOn.loses place from to then access other gone) = number-is gone
+  going-on-is-no-refusal on = go (stepped strip r hint on)
+    where
+      go : Stepped r (stepOf strip r hint .rec) (numberOf (stepOf strip r hint .answer))
+          → isRefusal (numberOf (stepOf strip r hint .answer)) ≡ false
+      go (Stepped.going-on number operation v to-2 to-3) = rw number refl
+      go (Stepped.acting (inl number) ended) = rw number refl
+      go (Stepped.acting (inr number) ended) = rw number refl
+      go (Stepped.filling number second ended) = rw number refl
+      go (Stepped.emptying number third ended) = rw number refl
 
   -- A refused step gives its record back, carries no order and leaves every word.
   pub refused-step-changes-nothing : RefusedKeeps r (stepOf strip r hint)

@@ -2,6 +2,7 @@ pub mod Cleared
 pub mod Accesses
 pub mod EachStage
 pub mod Went
+pub mod Stepped
 pub mod Kept
 pub mod Called
 pub mod Calls

@@ -1,7 +1,7 @@
 -- Every way a step can go, each with what it read, what it gives and the words it leaves. Whatever is proved of steps goes by
 -- these cases.
 use Prim.Native.Nat.{ℕ}
-use mathlib.Core.Path.{_≡_, refl, sym, subst}
+use mathlib.Core.Path.{_≡_, refl, subst}
 use mathlib.Core.Bool.{Bool, true, false, not}
 use mathlib.Core.List.{List}
 use lib.ListN.{length, getD, set}
@@ -18,17 +18,16 @@ use Rattle.party.specs.Record.{again, atStage, withPlace, withFirst, withSecond
 use Rattle.party.specs.Valid.{isIdle, validOf}
 use Rattle.party.specs.Answer.{isRefusal, goingOn, ends, refused}
 use Rattle.party.specs.declared.Record.{Record}
-use Rattle.party.specs.declared.Answered.{Answered}
 use Rattle.party.specs.declared.Answer.the-variants.{Pushed, Popped, Full, Empty}
 use Rattle.party.proofs.Stages.{ValidAt, valid-at}
 use Rattle.party.proofs.Refusals.{Checked, refusal-is-not-0}
 use Rattle.step.specs.Stages.{near, own, atPlace, atNear, accessOf}
 use Rattle.step.specs.Follow.{pushAtWall, popAtFar, judgeOf, recheckOf, wonOf, swappedOf}
-use Rattle.step.specs.Step.{stripFits, maxOf, hintFits, stepOwn, stepRefusal, stepOf, stepLeaves}
+use Rattle.step.specs.Step.{stripFits, maxOf, hintFits, stepOwn, stepRefusal}
 use Rattle.step.specs.declared.AfterSwap.{AfterSwap}
 use Rattle.step.specs.declared.Access.the-variants.{Swap}
 use Rattle.step.proofs.Cleared.{Steppable, steppable}
-use Rattle.step.proofs.Accesses.{when-refused, when-looks, when-swaps}
+use Rattle.step.proofs.Accesses.{Gone, when-refused, when-looks, when-swaps}
 use Rattle.step.proofs.EachStage.{stage-1, stage-2, stage-3, stage-4-push, stage-4-pop, stage-5-push, stage-5-pop, aimed-first, aimed-later}
 
 -- Stage 2 drops the attempt by one of two tests: the first value is own null, or the second is not.
@@ -41,37 +40,33 @@ pub record NotMisled (strip : List ℕ) (r : Record) : Type 0 where
   pub second-own : valueOf (atPlace strip r) ≡ own r
 
 module _ (strip : List ℕ) (r : Record) (hint : ℕ) where
-  pub record Gone (given : Answered) (left : List ℕ) : Type 0 where
-    pub answered : stepOf strip r hint ≡ given
-    pub words : stepLeaves strip r hint ≡ left
-
   pub data GoneOn : Type 0 where
     remembers : r .stage ≡ 1
-        → Gone (goingOn (atStage 2 (withFirst (atNear strip (withPlace hint r)) (withPlace hint r)))) strip → GoneOn
-    drops : r .stage ≡ 2 → Misled strip r → Gone (goingOn (again r)) strip → GoneOn
+        → Gone strip r hint (goingOn (atStage 2 (withFirst (atNear strip (withPlace hint r)) (withPlace hint r)))) strip → GoneOn
+    drops : r .stage ≡ 2 → Misled strip r → Gone strip r hint (goingOn (again r)) strip → GoneOn
     fills : r .stage ≡ 2 → NotMisled strip r → pushAtWall (maxOf (length strip)) r ≡ true
-        → Gone (ends Full) strip → GoneOn
+        → Gone strip r hint (ends Full) strip → GoneOn
     doubts : r .stage ≡ 2 → NotMisled strip r → popAtFar r ≡ true
-        → Gone (goingOn (atStage 3 (withSecond (atPlace strip r) r))) strip → GoneOn
+        → Gone strip r hint (goingOn (atStage 3 (withSecond (atPlace strip r) r))) strip → GoneOn
     readies : r .stage ≡ 2 → NotMisled strip r → pushAtWall (maxOf (length strip)) r ≡ false → popAtFar r ≡ false
-        → Gone (goingOn (atStage 4 (withSecond (atPlace strip r) r))) strip → GoneOn
-    empties : r .stage ≡ 3 → atNear strip r ≡ r .first → Gone (ends Empty) strip → GoneOn
-    rechecks : r .stage ≡ 3 → (atNear strip r ≡ r .first → ⊥) → Gone (goingOn (atStage 4 r)) strip → GoneOn
+        → Gone strip r hint (goingOn (atStage 4 (withSecond (atPlace strip r) r))) strip → GoneOn
+    empties : r .stage ≡ 3 → atNear strip r ≡ r .first → Gone strip r hint (ends Empty) strip → GoneOn
+    rechecks : r .stage ≡ 3 → (atNear strip r ≡ r .first → ⊥) → Gone strip r hint (goingOn (atStage 4 r)) strip → GoneOn
     push-4 : r .stage ≡ 4 → isPush (r .operation) ≡ true → Took (atNear strip r) (r .first)
-        → Gone (goingOn (atStage 5 r)) (set strip (near r) (raisedTo (r .first) (valueOf (r .first)))) → GoneOn
+        → Gone strip r hint (goingOn (atStage 5 r)) (set strip (near r) (raisedTo (r .first) (valueOf (r .first)))) → GoneOn
     pop-4 : r .stage ≡ 4 → isPush (r .operation) ≡ false → Took (atPlace strip r) (r .second)
-        → Gone (goingOn (atStage 5 r)) (set strip (r .k) (raisedTo (r .second) (own r))) → GoneOn
+        → Gone strip r hint (goingOn (atStage 5 r)) (set strip (r .k) (raisedTo (r .second) (own r))) → GoneOn
     push-5 : r .stage ≡ 5 → isPush (r .operation) ≡ true → Took (atPlace strip r) (r .second)
-        → Gone (ends Pushed) (set strip (r .k) (raisedTo (r .second) (r .v))) → GoneOn
+        → Gone strip r hint (ends Pushed) (set strip (r .k) (raisedTo (r .second) (r .v))) → GoneOn
     pop-5 : r .stage ≡ 5 → isPush (r .operation) ≡ false → Took (atNear strip r) (r .first)
-        → Gone (ends (Popped (valueOf (r .first)))) (set strip (near r) (raisedTo (r .first) (own r))) → GoneOn
+        → Gone strip r hint (ends (Popped (valueOf (r .first)))) (set strip (near r) (raisedTo (r .first) (own r))) → GoneOn
     -- the swap of its stage met another word than the one it expected
     loses : (place from to : ℕ) (then : AfterSwap) → accessOf r ≡ Swap place from to then → (getD strip place 0 ≡ from → ⊥)
-        → Gone (goingOn (again r)) strip → GoneOn
+        → Gone strip r hint (goingOn (again r)) strip → GoneOn
 
   -- refused by a check, or by a swap at its counter's end; or gone on
   pub data Went : Type 0 where
-    stays : (number : ℕ) → isRefusal number ≡ true → Gone (refused number r) strip → Went
+    stays : (number : ℕ) → isRefusal number ≡ true → Gone strip r hint (refused number r) strip → Went
     goes : Steppable (length strip) r hint → GoneOn → Went
 
 pub step-checked : (words : ℕ) (r : Record) (hint : ℕ) → Checked (stepRefusal words r hint)
@@ -89,8 +84,7 @@ module _ (strip : List ℕ) (r : Record) (hint : ℕ) (passes : stepRefusal (len
   remembering : r .stage ≡ 1 → Went strip r hint
   remembering s =
       let at = withPlace hint r in
-      let step = when-looks strip r at hint passes (aimed-first r hint s) (near at) _ (atNear strip at) (stage-1 at s) refl in
-      goes clear (remembers s (record { answered = sym (step .0); words = sym (step .1) }))
+      goes clear (remembers s (when-looks strip r hint at passes (aimed-first r hint s) (near at) _ (atNear strip at) (stage-1 at s) refl))
 
   judging : r .stage ≡ 2 → Went strip r hint
   unfolding judgeOf
@@ -102,9 +96,7 @@ module _ (strip : List ℕ) (r : Record) (hint : ℕ) (passes : stepRefusal (len
       word = atPlace strip r
 
       looked : Gone strip r hint (judgeOf (maxOf (length strip)) r word) strip
-      looked =
-          let step = when-looks strip r r hint passes (aimed-later r hint (λ e. omega arith)) (r .k) _ word (stage-2 r s) refl in
-          record { answered = sym (step .0); words = sym (step .1) }
+      looked = when-looks strip r hint r passes (aimed-later r hint (λ e. omega arith)) (r .k) _ word (stage-2 r s) refl
 
       right : eqb (valueOf (r .first)) (own r) ≡ false → eqb (valueOf word) (own r) ≡ true → NotMisled strip r
       right a b = record { first-other = eqb-false _ _ a; second-own = eqb-true _ _ b }
@@ -125,9 +117,7 @@ module _ (strip : List ℕ) (r : Record) (hint : ℕ) (passes : stepRefusal (len
       word = atNear strip r
 
       looked : Gone strip r hint (recheckOf r word) strip
-      looked =
-          let step = when-looks strip r r hint passes (aimed-later r hint (λ e. omega arith)) (near r) _ word (stage-3 r s) refl in
-          record { answered = sym (step .0); words = sym (step .1) }
+      looked = when-looks strip r hint r passes (aimed-later r hint (λ e. omega arith)) (near r) _ word (stage-3 r s) refl
 
       go : (same : Bool) → eqb word (r .first) ≡ same → Went strip r hint
       go true e = goes clear (empties s (eqb-true word (r .first) e) (simp e at looked))
@@ -147,10 +137,8 @@ module _ (strip : List ℕ) (r : Record) (hint : ℕ) (passes : stepRefusal (len
 
       swapped : Swapping (swapOf met from)
       swapped =
-          let step =
-          when-swaps strip r r hint passes (aimed-later r hint later) place from to then (swapOf met from)
-          (wordsAfter (swapOf met from) strip place (raisedTo from to)) access (record { answered = refl; words = refl }) in
-          record { answered = sym (step .0); words = sym (step .1) }
+          when-swaps strip r hint r passes (aimed-later r hint later) place from to then (swapOf met from)
+          (wordsAfter (swapOf met from) strip place (raisedTo from to)) access (record { answered = refl; words = refl })
 
       go : SwapGoes met from → Went strip r hint
       go (SwapGoes.won took e) = goes clear (won took (subst Swapping e swapped))
@@ -182,6 +170,4 @@ went strip r hint = go (step-checked (length strip) r hint)
     go : Checked number → Went strip r hint
     go (Checked.none passes) =
         by-stage strip r hint passes (valid-at (maxOf (length strip)) r (steppable (length strip) r hint passes .valid))
-    go (Checked.some refusal) =
-        let step = when-refused strip r hint (refusal-is-not-0 number refusal) in
-        stays number refusal (record { answered = step .0; words = step .1 })
+    go (Checked.some refusal) = stays number refusal (when-refused strip r hint (refusal-is-not-0 number refusal))

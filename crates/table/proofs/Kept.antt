@@ -15,7 +15,8 @@ use Rattle.step.specs.Stages.{near}
 use Rattle.step.specs.Step.{maxOf, stepLeaves}
 use Rattle.step.specs.Call.{Call, partyOf, gate, ownOf, ownLeaves, recordOf, callOf}
 use Rattle.step.proofs.Calls.{refused-call-changes-nothing, other-records-stand}
-use Rattle.step.proofs.Went.{Gone, GoneOn, Went, went}
+use Rattle.step.proofs.Accesses.{Gone}
+use Rattle.step.proofs.Went.{GoneOn, Went, went}
 use Rattle.table.specs.Lent.{Does, DoesAtMax, alone, blank}
 use Rattle.table.specs.declared.Said.{Said}
 use Rattle.table.proofs.Promised.{blank-words}

@@ -52,8 +52,8 @@ returns c =
     let number = asked .before .step-refusal .ensures in
     let step = when-refused _ _ _ (λ e. asked .if1 .taken (number ∙ e)) in
     record {
-      gives = gives (c .refused-with .ensures ∙ ap (λ (n : ℕ). refused n (asked .before .before .before .args .r)) number ∙ sym (step .0));
-      words = sym (step .1);
+      gives = gives (c .refused-with .ensures ∙ ap (λ (n : ℕ). refused n (asked .before .before .before .args .r)) number ∙ sym (step .answered));
+      words = sym (step .words);
     }
 
 sub-max : tie.Need-sub-max
@@ -105,7 +105,7 @@ returns-2 c =
     let at = found .before .before in
     let access = sym (at .access .ensures) ∙ found .place .given .1 in
     let step = when-looks _ _ _ _ (passes (at .before .before)) (at .before .aim .ensures) _ _ _ access (c .before .look .ensures) in
-    record { gives = gives (c .looked .ensures ∙ step .0); words = step .1 }
+    record { gives = gives (c .looked .ensures ∙ sym (step .answered)); words = sym (step .words) }
 
 same-length-2 : tie.Need-same-length-2
 same-length-2 c = search needs
@@ -117,7 +117,7 @@ returns-3 c =
     let at = found .before .before in
     let access = sym (at .access .ensures) ∙ found .place2 .given .1 in
     let step = when-swaps _ _ _ _ (passes (at .before .before)) (at .before .aim .ensures) _ _ _ _ _ _ access (swap .swap .ensures) in
-    record { gives = gives (c .swapped .ensures ∙ step .0); words = step .1 }
+    record { gives = gives (c .swapped .ensures ∙ sym (step .answered)); words = sym (step .words) }
 
 pub step-spec : {M : Type 1} → statement M
 step-spec =

@@ -8,18 +8,18 @@ use native.Mathlib.Omega.{arith}
 use Rattle.party.specs.Record.{idle}
 use Rattle.party.specs.Answer.{numberOf}
 use Rattle.party.specs.declared.Record.{Record}
-use Rattle.party.specs.declared.Answered.{Answered}
 use Rattle.step.specs.Step.{stepOf}
 use Rattle.step.proofs.Went.{GoneOn}
 
-pub data Stepped (r : Record) (given : Answered) : Type 0 where
-  going-on : numberOf (given .answer) ≡ 0 → given .rec .operation ≡ r .operation → given .rec .v ≡ r .v
-      → (given .rec .stage ≡ 2 → r .stage ≡ 1) → (given .rec .stage ≡ 3 → r .stage ≡ 2) → Stepped r given
-  acting : (numberOf (given .answer) ≡ 16) ⊎ (numberOf (given .answer) ≡ 17) → given .rec ≡ idle → Stepped r given
-  filling : numberOf (given .answer) ≡ 18 → r .stage ≡ 2 → given .rec ≡ idle → Stepped r given
-  emptying : numberOf (given .answer) ≡ 19 → r .stage ≡ 3 → given .rec ≡ idle → Stepped r given
+pub data Stepped (r next : Record) (number : ℕ) : Type 0 where
+  going-on : number ≡ 0 → next .operation ≡ r .operation → next .v ≡ r .v → (next .stage ≡ 2 → r .stage ≡ 1)
+      → (next .stage ≡ 3 → r .stage ≡ 2) → Stepped r next number
+  acting : (number ≡ 16) ⊎ (number ≡ 17) → next ≡ idle → Stepped r next number
+  filling : number ≡ 18 → r .stage ≡ 2 → next ≡ idle → Stepped r next number
+  emptying : number ≡ 19 → r .stage ≡ 3 → next ≡ idle → Stepped r next number
 
-pub stepped : (strip : List ℕ) (r : Record) (hint : ℕ) → GoneOn strip r hint → Stepped r (stepOf strip r hint)
+pub stepped : (strip : List ℕ) (r : Record) (hint : ℕ) → GoneOn strip r hint
+    → Stepped r (stepOf strip r hint .rec) (numberOf (stepOf strip r hint .answer))
 stepped strip r hint (GoneOn.remembers s gone) = rw (gone .answered) (going-on refl refl refl (λ to. omega arith) (λ to. omega arith))
 stepped strip r hint (GoneOn.drops s d gone) = rw (gone .answered) (going-on refl refl refl (λ to. omega arith) (λ to. omega arith))
 stepped strip r hint (GoneOn.fills s d w gone) = rw (gone .answered) (filling refl s refl)
