@@ -33,6 +33,6 @@ module _ (strip : List ℕ) (table : List Record) (call : Call) where
           let small = subst Fitting is fitting in
           let valid = begun-is-valid (maxOf (length strip)) operation order (omega (arith, clear .known)) (clear .ordered) in
           leaves-sane left
-          (set-early-sane sane party (early-sound strip (begun operation order) valid small (omega arith)) (omega arith))
+          (set-early-sane sane party (early-sound strip (begun operation order) valid small (omega arith) (λ s. absurd (omega arith))) (omega arith))
       go (Called.withdraws party is known left) = leaves-sane left (set-early-sane sane party (idle-sound strip) (omega arith))
       go (Called.steps party hint is known clear on left) = leaves-sane left (step-sane strip table party hint fits known sane on)

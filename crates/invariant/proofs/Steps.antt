@@ -14,7 +14,7 @@ use Rattle.step.proofs.Kept.{step-keeps-valid}
 use Rattle.step.proofs.Accesses.{Gone}
 use Rattle.step.proofs.Went.{GoneOn}
 use Rattle.invariant.specs.Invariant.{Sound, Sane}
-use Rattle.invariant.proofs.Moves.{early-sound, idle-sound, second-stage-sound, judged-sound, rechecked-sound}
+use Rattle.invariant.proofs.Moves.{early-sound, idle-sound, judged-sound, rechecked-sound}
 use Rattle.invariant.proofs.Sanity.{set-early-sane}
 use Rattle.invariant.proofs.Swaps.{push-4-sane, pop-4-sane, push-5-sane, pop-5-sane}
 
@@ -42,11 +42,11 @@ module _ (strip : List ℕ) (table : List Record) (party hint : ℕ) (fits : str
   quiet gone now early = gone-sane gone (set-early-sane sane party now early)
 
   again-sound : validOf (maxOf (length strip)) (again r) ≡ true → Sound strip (again r)
-  again-sound valid = early-sound strip (again r) valid (sound .order-fits) (omega arith)
+  again-sound valid = early-sound strip (again r) valid (sound .order-fits) (omega arith) (λ s. absurd (omega arith))
 
   pub step-sane : GoneOn strip r hint → Sane (stepLeaves strip r hint) (set table party (stepOf strip r hint .rec))
   step-sane (GoneOn.remembers s gone) =
-      quiet gone (second-stage-sound strip _ (gone-valid gone) (sound .order-fits) refl refl) (omega arith)
+      quiet gone (early-sound strip _ (gone-valid gone) (sound .order-fits) (omega arith) (λ s. refl)) (omega arith)
   step-sane (GoneOn.drops s d gone) = quiet gone (again-sound (gone-valid gone)) (omega arith)
   step-sane (GoneOn.fills s d w gone) = quiet gone (idle-sound strip) (omega arith)
   step-sane (GoneOn.doubts s d f gone) =
