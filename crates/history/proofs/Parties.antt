@@ -22,16 +22,6 @@ use Rattle.history.specs.Run.{State, goesOn, isStep, looked, lineOf, lea
 use Rattle.history.specs.Finished.{Asked, nothingYet, askedAfter}
 use Rattle.history.proofs.Own.{Own, own}
 
--- a refusal does not go on
-refusal-stops : (number : ℕ) → isRefusal number ≡ true → goesOn number ≡ false
-refusal-stops number refusal = ne-eqb number 0 (refusal-is-not-0 number refusal)
-
--- who does not go on has not looked
-stops-unlooked : (s : State) (call : Call) (number : ℕ) → goesOn number ≡ false → looked s call number ≡ false
-stops-unlooked s (Call.start party operation order) number e = refl
-stops-unlooked s (Call.step party hint) number e = rw e refl
-stops-unlooked s (Call.withdraw party) number e = refl
-
 -- a party that looks makes a step that goes on
 pub look-is-a-step : (s : State) (call : Call) → looked s call (numberIn s call) ≡ true
     → (hint : ℕ) × (call ≡ Call.step (partyOf call) hint) × (numberIn s call ≡ 0)
@@ -90,15 +80,14 @@ module _ (s : State) (entry : ℕ) where
   looked-known : (call : Call) → looked s call (numberIn s call) ≡ true → partyOf call < length (s .table)
   looked-known call looks = go (own s entry call)
     where
-      step : isStep call ≡ true
-      step = let is = look-is-a-step s call looks in ap isStep (is .1)
+      is : (hint : ℕ) × (call ≡ Call.step (partyOf call) hint) × (numberIn s call ≡ 0)
+      is = look-is-a-step s call looks
 
       go : Own s entry call → partyOf call < length (s .table)
-      go (Own.refused refusal same) =
-          absurd (true≢false (sym looks ∙ stops-unlooked s call (numberIn s call) (refusal-stops (numberIn s call) refusal)))
-      go (Own.begins operation order is known none begun-is) = known
-      go (Own.withdrawn other none ended) = absurd (true≢false (sym step ∙ other))
-      go (Own.steps hint is known busy how) = known
+      go (Own.refused refusal same) = absurd (refusal-is-not-0 (numberIn s call) refusal (is .2))
+      go (Own.begins operation order start known none begun-is) = known
+      go (Own.withdrawn other none ended) = absurd (true≢false (sym (ap isStep (is .1)) ∙ other))
+      go (Own.steps hint step known busy how) = known
 
   -- the last look of each party
   pub look-after : length (s .looks) ≡ length (s .table) → (call : Call) (i : ℕ)
@@ -133,7 +122,8 @@ module _ (s : State) (entry : ℕ) where
     asked-refused : (call : Call) → isRefusal (numberIn s call) ≡ true → askedThen call ≡ asked
     unfolding lineOf
     asked-refused (Call.start party operation order) refusal =
-        rw (refusal-stops (numberIn s (Call.start party operation order)) refusal) refl
+        let number = numberIn s (Call.start party operation order) in
+        rw (ne-eqb number 0 (refusal-is-not-0 number refusal)) refl
     asked-refused (Call.step party hint) refusal = refl
     asked-refused (Call.withdraw party) refusal = refl
 
