@@ -43,7 +43,7 @@ either : {max : ℕ} {left left′ : List ℕ} (test : Bool) {x y x′ y′ : An
 either true p q = p
 either false p q = q
 
--- what follows the access of the mirrored record's line, and the words it leaves, mirror those of the record's line
+-- what follows the access of the mirrored record, and the words it leaves, mirror those of the record's access
 abbrev AccessMirrors : List ℕ → Record → (hint : ℕ) → Type 0
 AccessMirrors strip r hint =
     let max = maxOf (length strip) in
@@ -52,12 +52,12 @@ AccessMirrors strip r hint =
     Mirrors max (followed strip at (accessOf at)) (written strip (accessOf at)) (followed (mirrorStrip strip) at′ (accessOf at′))
     (written (mirrorStrip strip) (accessOf at′))
 
--- a step that is refused alike mirrors, if its line does where it passes
+-- a step that is refused alike mirrors, if its access does where it passes
 step-mirrors : (strip : List ℕ) (r : Record) (hint : ℕ)
     → stepRefusal (length strip) (mirrorRecord (maxOf (length strip)) r) (mirrorPlace (maxOf (length strip)) hint) ≡ stepRefusal (length strip) r hint
     → (Steppable (length strip) r hint → AccessMirrors strip r hint) → StepMirrors strip r hint
 unfolding stepOf stepLeaves
-step-mirrors strip r hint alike line = rw (length-mirror strip, alike) (go (eqb number 0) refl)
+step-mirrors strip r hint alike access = rw (length-mirror strip, alike) (go (eqb number 0) refl)
   where
     number : ℕ
     number = stepRefusal (length strip) r hint
@@ -78,7 +78,7 @@ step-mirrors strip r hint alike line = rw (length-mirror strip, alike) (go (eqb 
         → Mirrors max (pick none (followed strip at (accessOf at)) (refused number r)) (pick none (written strip (accessOf at)) strip)
         (pick none (followed (mirrorStrip strip) at′ (accessOf at′)) (refused number r′))
         (pick none (written (mirrorStrip strip) (accessOf at′)) (mirrorStrip strip))
-    go true e = line (steppable (length strip) r hint (eqb-true number 0 e))
+    go true e = access (steppable (length strip) r hint (eqb-true number 0 e))
     go false e = mirrored
 
 -- a swap on the mirrored strip goes as the swap does

@@ -1,4 +1,4 @@
--- One entry on the run's two arrays of 16 is that entry on the state of base 3's run.
+-- One entry on the run's two arrays of 16 is that entry on the state of demand 3's run.
 use Prim.Native.Nat.{ℕ, _≤_}
 use mathlib.Core.Path.{_≡_, refl, sym, _∙_, ap, subst}
 use mathlib.Core.Bool.{Bool, true, false, and-false}
