@@ -1,13 +1,13 @@
 -- How a party comes to stage 2 or 3, and stays there.
-use Prim.Native.Nat.{ℕ, suc}
-use mathlib.Core.Path.{_≡_, refl, sym, subst}
+use Prim.Native.Nat.{ℕ, suc, _≤_}
+use mathlib.Core.Path.{_≡_, refl, sym, ap}
 use mathlib.Core.Bool.{Bool, true, false}
 use mathlib.Core.Logic.{_⊎_, inl, inr}
 use lib.ListN.{getD}
 use lib.Dec.{eqb}
 use borrow.Author.Tests.{eqb-true, eqb-false}
 use native.Mathlib.Omega.{arith}
-use Rattle.party.specs.Record.{idle, begun}
+use Rattle.party.specs.Record.{idle}
 use Rattle.party.specs.Answer.{isRefusal}
 use Rattle.party.specs.declared.Record.{Record}
 use Rattle.step.specs.Call.{Call, partyOf}
@@ -25,13 +25,10 @@ pub data Since (s : State) (call : Call) (i : ℕ) (r next : Record) : Type 0 wh
 abbrev pub Early : Record → Type 0
 Early r = (r .stage ≡ 2) ⊎ (r .stage ≡ 3)
 
-idle-is-not-early : Early idle → ⊥
-idle-is-not-early (inl e) = omega arith
-idle-is-not-early (inr e) = omega arith
-
-begun-is-not-early : (operation order : ℕ) → Early (begun operation order) → ⊥
-begun-is-not-early operation order (inl e) = omega arith
-begun-is-not-early operation order (inr e) = omega arith
+-- before stage 2 it is not
+too-early : {r start : Record} → r ≡ start → start .stage ≤ 1 → Early r → ⊥
+too-early same low (inl e) = let at = ap (λ (x : Record). x .stage) same in omega arith
+too-early same low (inr e) = let at = ap (λ (x : Record). x .stage) same in omega arith
 
 came-from : (r next : Record) → (next .stage ≡ 2 → r .stage ≡ 1) → (next .stage ≡ 3 → r .stage ≡ 2) → Early next
     → ((r .stage ≡ 1) ⊎ (r .stage ≡ 2)) × (next .stage ≡ suc (r .stage))
@@ -48,17 +45,14 @@ module _ (s : State) (entry : ℕ) where
   own-since : (call : Call) → Own s entry call → Early (recordThen call (partyOf call))
       → Since s call (partyOf call) (recordAt (partyOf call)) (recordThen call (partyOf call))
   own-since call (Own.refused refusal same) early = still same (λ mine. refusal)
-  own-since call (Own.begins operation order is known none begun-is) early =
-      absurd (begun-is-not-early operation order (subst Early begun-is early))
-  own-since call (Own.withdrawn other none ended) early = absurd (idle-is-not-early (subst Early ended early))
+  own-since call (Own.begins operation order is known none begun-is) early = absurd (too-early begun-is (omega arith) early)
+  own-since call (Own.withdrawn other none ended) early = absurd (too-early ended (omega arith) early)
   own-since call (Own.steps hint is known busy (Stepped.going-on none operation v to-2 to-3)) early =
       let from = came-from (recordAt (partyOf call)) (recordThen call (partyOf call)) to-2 to-3 early in
       now (rw is (step-looks-now s (partyOf call) hint (rw is at none) (from .0))) (from .1)
-  own-since call (Own.steps hint is known busy (Stepped.acting number ended)) early = absurd (idle-is-not-early (subst Early ended early))
-  own-since call (Own.steps hint is known busy (Stepped.filling number second ended)) early =
-      absurd (idle-is-not-early (subst Early ended early))
-  own-since call (Own.steps hint is known busy (Stepped.emptying number third ended)) early =
-      absurd (idle-is-not-early (subst Early ended early))
+  own-since call (Own.steps hint is known busy (Stepped.acting number ended)) early = absurd (too-early ended (omega arith) early)
+  own-since call (Own.steps hint is known busy (Stepped.filling number second ended)) early = absurd (too-early ended (omega arith) early)
+  own-since call (Own.steps hint is known busy (Stepped.emptying number third ended)) early = absurd (too-early ended (omega arith) early)
 
   pub since : (call : Call) (i : ℕ) → Early (recordThen call i) → Since s call i (recordAt i) (recordThen call i)
   since call i = go (eqb i (partyOf call)) refl

@@ -51,6 +51,7 @@ effectOf s entry call number = pick (eqb number 18 || eqb number 19) (getD (s .l
 abbrev pub after : State → Call → Left
 after s call = callOf (s .strip) (s .table) call
 
+-- the number that a call is answered with
 abbrev pub numberIn : State → Call → ℕ
 numberIn s call = numberOf (after s call .answer)
 

@@ -50,10 +50,12 @@ module _ (strip : List ℕ) (table : List Record) (party : ℕ) (fits : stripFit
       (stays-sound w to small now (same-value-spares place same now))
       (λ s t. made (atStage 5 r) (claim-known now refl))
       (λ i listed s t. made (of i) (claim-known (sane .sound i listed) t))
-      (λ i listed s t. apart-sym (set strip place (raisedTo from to)) (claimOf r) (claimOf (of i)) (made (of i) (claim-known (sane .sound i listed) s)))
+      (λ i listed s t. apart-sym swapped (claimOf r) (claimOf (of i)) (made (of i) (claim-known (sane .sound i listed) s)))
     where
-      made : (other : Record) → Known strip (claimOf other .target) (claimOf other .word)
-          → Apart (set strip place (raisedTo from to)) (claimOf r) (claimOf other)
+      swapped : List ℕ
+      swapped = set strip place (raisedTo from to)
+
+      made : (other : Record) → Known strip (claimOf other .target) (claimOf other .word) → Apart swapped (claimOf r) (claimOf other)
       made other = apart-made w to (claimOf r) (claimOf other) guard
 
   -- that of stage 5 ends the operation
@@ -100,8 +102,8 @@ module _ (strip : List ℕ) (table : List Record) (party : ℕ) (fits : stripFit
           differs (sym (sound .second-own (omega arith)) ∙ ap valueOf (sym (took .same)) ∙ ap (valueAt strip) (sym at)
           ∙ sane .sound i listed .pop-ahead s′ pop fresh)
 
-  -- A push of this side behind which own null would stand would cross this pop's claim. Ahead of a pop of the other side stands far null,
-  -- and this pop's first value is not that.
+  -- A push of this side behind which own null would stand would cross this pop's claim. Ahead of a pop of the other side stands far
+  -- null, and this pop's first value is not that.
   pub pop-5-sane : r .stage ≡ 5 → isPush (r .operation) ≡ false → Took (atNear strip r) (r .first)
       → Sane (set strip (near r) (raisedTo (r .first) (own r))) (set table party idle)
   pop-5-sane s pop took =

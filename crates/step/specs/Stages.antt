@@ -28,7 +28,8 @@ atPlace strip r = getD strip (r .k) 0
 abbrev pub atNear : List ℕ → Record → ℕ
 atNear strip r = getD strip (near r) 0
 
--- the access of a record's stage; in stage 1 its k is the hint it took. No valid record that is busy has another stage.
+-- the access of a record's stage; in stage 1 its k is the hint it took. A valid record that is busy has one of these five stages: what
+-- stands last is never made.
 unfoldable pub accessOf : Record → Access
 accessOf r =
     pick (eqb (r .stage) 1) (Look (near r) Remember)

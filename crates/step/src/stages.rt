@@ -10,7 +10,7 @@ ghost use mathlib.Core.Path.{_≡_};
 ghost use Rattle.step.specs.Stages.{accessOf};
 
 pub fn access(r: Record) -> Access
-    ensures { λ l. ⌜ l ≡ accessOf r ⌝ }
+    ensures { λ a. ⌜ a ≡ accessOf r ⌝ }
 {
     let stage = r.stage;
     let operation = r.operation;
@@ -29,7 +29,7 @@ pub fn access(r: Record) -> Access
             0 | 2 => Access::Swap(k, r.second, r.v, AfterSwap::Push),
             _ => Access::Swap(near, r.first, own, AfterSwap::Pop),
         },
-        // no valid record comes here
+        // no valid record comes here: it is never made
         _ => Access::Look(near, AfterLook::Remember),
     }
 }

@@ -6,9 +6,9 @@ use mathlib.Core.List.{List}
 use lib.ListN.{length}
 use lib.Dec.{eqb}
 use Rattle.logic.specs.Pick.{pick}
+use Rattle.word.specs.Word.{valueAt}
 use Rattle.party.specs.Operation.{isRight, ownNull, neighbour}
 use Rattle.step.specs.Step.{stripFits, maxOf}
-use Rattle.word.specs.Word.{valueAt}
 use Rattle.strip.specs.declared.Found.{Found}
 use Rattle.strip.specs.declared.Found.the-variants.{Place, NotFound}
 

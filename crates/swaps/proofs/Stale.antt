@@ -8,6 +8,7 @@ use lib.Seq.{getD-set-same, getD-set-other}
 use lib.Dec.{eqb}
 use borrow.Author.Tests.{eqb-true, eqb-false}
 use native.Mathlib.Omega.{arith}
+use Rattle.logic.proofs.Lists.{at-set}
 use Rattle.word.specs.Word.{counterOf, raisedTo, valueAt}
 use Rattle.word.proofs.Laws.{Took, raised-value}
 use Rattle.swaps.specs.Remembered.{Remembered, Fresh, Known}
@@ -55,11 +56,8 @@ module _ {words : List ℕ} {place from : ℕ} (w : Wins words place from) (to :
 
   -- Every remembered word stays remembered.
   pub remembered-kept : (word q : ℕ) → Known words q word → Known swapped q word
-  remembered-kept word q known = go (at q)
-    where
-      go : After words place (raisedTo from to) q → Known swapped q word
-      go (After.here is now) = rw now (Remembered.stale (passes word q is known))
-      go (After.there off now) = rw now known
+  remembered-kept word q known =
+      at-set (Remembered word) 0 words place q (raisedTo from to) (λ is. Remembered.stale (passes word q is known)) known
 
   -- One that is fresh after the swap is of another place, and was fresh before.
   pub fresh-elsewhere : (word q : ℕ) → Known words q word → Fresh swapped q word → (q ≡ place → ⊥) × Fresh words q word
@@ -79,8 +77,6 @@ module _ {words : List ℕ} {place from : ℕ} (w : Wins words place from) (to :
 
   -- No counter falls.
   pub counter-kept : (q : ℕ) → counterOf (getD words q 0) ≤ counterOf (getD swapped q 0)
-  counter-kept q = go (at q)
-    where
-      go : After words place (raisedTo from to) q → counterOf (getD words q 0) ≤ counterOf (getD swapped q 0)
-      go (After.here is now) = rw (now, is, w .took .same) (omega arith)
-      go (After.there off now) = rw now (omega arith)
+  counter-kept q =
+      at-set (λ (now : ℕ). counterOf (getD words q 0) ≤ counterOf now) 0 words place q (raisedTo from to)
+      (λ is. rw (is, w .took .same) (omega arith)) (omega arith)

@@ -11,8 +11,10 @@ pub data Remembered (word now : ℕ) : Type 0 where
   fresh : now ≡ word → Remembered word now
   stale : counterOf word < counterOf now → Remembered word now
 
+-- it still stands in its place
 abbrev pub Fresh : (words : List ℕ) (place word : ℕ) → Type 0
 Fresh words place word = getD words place 0 ≡ word
 
+-- it was read at that place: fresh or stale
 abbrev pub Known : (words : List ℕ) (place word : ℕ) → Type 0
 Known words place word = Remembered word (getD words place 0)
