@@ -19,16 +19,18 @@ use Rattle.party.proofs.Cleared.{max-within}
 use Rattle.step.specs.Step.{stripFits, maxOf}
 use Rattle.step.specs.Call.{Call, Fitting, partyOf, isUnknown, gate, ownOf, ownLeaves, recordOf, through, turnedAway, callOf}
 use Rattle.little.specs.Bytes.{bytesOf}
-use Rattle.image.specs.Format.{wordPlace, recordPlace, maxAt, partiesAt, headerRefusal}
-use Rattle.image.specs.Spelling.{stripOf, tableOf, recordAt, isSpare, spelled, RecordFits}
-use Rattle.image.specs.Read.{namedRefusal, recorded}
+use Rattle.header.specs.Header.{maxAt, partiesAt, versionAt}
+use Rattle.format.specs.Format.{wordPlace, partyPlace, headerRefusal, wordsBase}
+use Rattle.format.specs.Spelling.{stripOf, tableOf, recordAt, isSpare, spelled, RecordFits}
+use Rattle.format.specs.Inside.{namedRefusal}
+use Rattle.format.proofs.Records.{read-record-fits}
+use Rattle.image.specs.Inside.{recorded}
 use Rattle.image.specs.Calls.{Done, unchanged, encoded, imageOf}
 use Rattle.little.proofs.Digits.{AreBytes}
-use Rattle.image.proofs.Widths.{read-record-fits}
 use Rattle.image.proofs.Leaves.{words-fit, Fit, own-leaves}
-use Rattle.image.proofs.Sizes.{header-sized}
-use Rattle.image.proofs.Gated.{NamedFits, named-fits}
-use Rattle.image.proofs.Spelled.{strip-length, table-length, record-is-read, decoded-is-spelled, record-is-laid, both-are-laid}
+use Rattle.format.proofs.Sizes.{header-sized}
+use Rattle.format.proofs.Gated.{NamedFits, named-fits}
+use Rattle.format.proofs.Spelled.{strip-length, table-length, record-is-read, decoded-is-spelled, record-is-laid, both-are-laid}
 
 -- a MAX that fits is that of a strip that fits
 pub strip-fits : (max : ℕ) → (1 ≤ max) × (max ≤ 4094) → stripFits (max + 2) ≡ true
@@ -55,13 +57,13 @@ module _ (image : List ℕ) (call : Call) (are : AreBytes image) where
 
   pub call-is : imageOf image call ≡ pick (eqb (namedRefusal image (isUnknown call) (partyOf call)) 0) went (unchanged (namedRefusal image (isUnknown call) (partyOf call)) image)
   unfolding imageOf namedRefusal callOf
-  call-is = go (eqb (headerRefusal image) 0) (isUnknown call) (leb (partiesAt image) (partyOf call)) (isSpare image (recordPlace (maxAt image) (partyOf call))) refl refl refl refl
+  call-is = go (eqb (headerRefusal image) 0) (isUnknown call) (leb (partiesAt image) (partyOf call)) (isSpare (versionAt image) image (partyPlace image (partyOf call))) refl refl refl refl
     where
       Is : Type 0
       Is = imageOf image call ≡ pick (eqb (namedRefusal image (isUnknown call) (partyOf call)) 0) went (unchanged (namedRefusal image (isUnknown call) (partyOf call)) image)
 
       go : (h u p s : Bool) → eqb (headerRefusal image) 0 ≡ h → isUnknown call ≡ u → leb (partiesAt image) (partyOf call) ≡ p
-          → isSpare image (recordPlace (maxAt image) (partyOf call)) ≡ s → Is
+          → isSpare (versionAt image) image (partyPlace image (partyOf call)) ≡ s → Is
       go false u p s eh eu ep es = simp eh
       go true true p s eh eu ep es =
           simp (eh, strip-length image, table-length image, gate-is image call (eqb-true _ 0 eh), eu) (turned 11)
@@ -78,10 +80,10 @@ module _ (image : List ℕ) (call : Call) (are : AreBytes image) where
 
 -- where the named record stands, and the record
 abbrev pub placeIn : List ℕ → Call → ℕ
-placeIn image call = recordPlace (maxAt image) (partyOf call)
+placeIn image call = partyPlace image (partyOf call)
 
 abbrev pub recordIn : List ℕ → Call → Record
-recordIn image call = recordAt image (placeIn image call)
+recordIn image call = recordAt (versionAt image) image (placeIn image call)
 
 -- A call that passes the checks before the record's own does what it does on the decoded strip and record.
 module _ (image : List ℕ) (call : Call) (are : AreBytes image) (clear : namedRefusal image (isUnknown call) (partyOf call) ≡ 0) where
@@ -108,18 +110,18 @@ module _ (image : List ℕ) (call : Call) (are : AreBytes image) (clear : namedR
   module _ (narrow : Fitting call) where
     -- what the call leaves fits the image
     own-fit : Fit (stripOf image) (ownLeaves (stripOf image) (recordIn image call) call) (ownOf (stripOf image) (recordIn image call) call .rec)
-    own-fit = own-leaves (stripOf image) (words-fit image are) (recordIn image call) (read-record-fits image (placeIn image call) are) call narrow
+    own-fit = own-leaves (stripOf image) (words-fit image are) (recordIn image call) (read-record-fits (versionAt image) image (placeIn image call) are) call narrow
 
     rec-fits : (given : Answered) {left : List ℕ} → Owned given left → RecordFits (given .rec)
     rec-fits given owned = subst (λ (a : Answered). RecordFits (a .rec)) (owned .0) (own-fit .rec)
 
     pub own-recorded : (given : Answered) → Owned given (stripOf image)
-        → imageOf image call ≡ record { answer = given .answer; image = recorded image (placeIn image call) given }
+        → imageOf image call ≡ record { answer = given .answer; image = recorded (versionAt image) image (placeIn image call) given }
     own-recorded given owned =
         passes owned ∙ rw (record-is-laid image are (partyOf call) (given .rec) (rec-fits given owned) (fits .party-known)) refl
 
     pub own-swapped : (given : Answered) (place w : ℕ) → Owned given (set (stripOf image) place w) → place < maxAt image + 2
-        → imageOf image call ≡ record { answer = given .answer; image = recorded (sets image (wordPlace place) (bytesOf 8 w)) (placeIn image call) given }
+        → imageOf image call ≡ record { answer = given .answer; image = recorded (versionAt image) (sets image (wordPlace wordsBase place) (bytesOf 8 w)) (placeIn image call) given }
     own-swapped given place w owned inside =
         let within : place < length (stripOf image) = rw (strip-length image) inside in
         let word-fits : IsWord w =

@@ -13,13 +13,13 @@ use Rattle.word.specs.Word.{IsWord}
 use Rattle.party.specs.Record.{idle}
 use Rattle.party.specs.declared.Record.{Record}
 use Rattle.step.specs.Call.{Call, Fitting, gate, ownOf, ownLeaves, recordOf, partyOf, Left, through, turnedAway, callOf}
-use Rattle.image.specs.Format.{headerRefusal}
-use Rattle.image.specs.Spelling.{stripOf, tableOf, spelled, RecordFits}
+use Rattle.format.specs.Format.{headerRefusal}
+use Rattle.format.specs.Spelling.{stripOf, tableOf, spelled, RecordFits}
 use Rattle.image.specs.Calls.{decoded, spareRefused, imageOf}
 use Rattle.little.proofs.Digits.{AreBytes}
 use Rattle.image.proofs.Widths.{idle-fits}
-use Rattle.image.proofs.Sizes.{header-sized}
-use Rattle.image.proofs.Spelled.{strip-length, table-length, spelled-strip-is-decoded, spelled-table-is-decoded}
+use Rattle.format.proofs.Sizes.{header-sized}
+use Rattle.format.proofs.Spelled.{strip-length, table-length, spelled-strip-is-decoded, spelled-table-is-decoded}
 use Rattle.image.proofs.Leaves.{words-fit, records-fit, fits-anywhere, Fit, own-leaves}
 
 -- The image of a call that the header and the spare bytes let through spells what the call leaves.

@@ -10,26 +10,16 @@ use Rattle.party.specs.Answer.{isRefusal, numberOf, carriedOf}
 use Rattle.party.specs.declared.Answer.{Answer}
 use Rattle.step.specs.Call.{Call}
 use Rattle.step.proofs.Calls.{refused-call-changes-nothing}
-use Rattle.image.specs.Format.{headerRefusal}
-use Rattle.image.specs.Spelling.{stripOf, tableOf}
+use Rattle.format.specs.Format.{headerRefusal}
+use Rattle.format.specs.Spelling.{stripOf, tableOf}
 use Rattle.image.specs.Calls.{Done, spareRefused, imageOf, layRefusal, layOf, ImagePromise}
 use Rattle.little.proofs.Digits.{AreBytes}
-use Rattle.image.proofs.Spelled.{decoded-is-spelled}
+use Rattle.format.proofs.Spelled.{decoded-is-spelled}
 
--- Two results that keep one promise have the same number, carried order and bytes.
-pub record Same (one : Answer) (left : List ℕ) (two : Answer) (other : List ℕ) : Type 0 where
-  pub number : numberOf one ≡ numberOf two
-  pub carried : carriedOf one ≡ carriedOf two
-  pub bytes : left ≡ other
-
+-- Two results that keep one promise are the same answer and the same bytes.
 pub two-images-that-keep-it-are-equal : {wanted : Done} {one two : Answer} {left other : List ℕ}
-    → ImagePromise wanted one left → ImagePromise wanted two other → Same one left two other
-two-images-that-keep-it-are-equal p q =
-    record {
-      number = p .number ∙ sym (q .number);
-      carried = p .carried ∙ sym (q .carried);
-      bytes = p .bytes ∙ sym (q .bytes);
-    }
+    → ImagePromise wanted one left → ImagePromise wanted two other → (one ≡ two) × (left ≡ other)
+two-images-that-keep-it-are-equal p q = (p .answered ∙ sym (q .answered), p .bytes ∙ sym (q .bytes))
 
 -- A refused call carries no order and leaves every byte.
 abbrev pub RefusedLeaves : List ℕ → Done → Type 0

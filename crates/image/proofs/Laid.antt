@@ -11,15 +11,16 @@ use Rattle.logic.proofs.Bools.{both, passed}
 use Rattle.party.specs.declared.Answer.the-variants.{GoesOn, Refused}
 use Rattle.party.proofs.Cleared.{max-within}
 use Rattle.strip.specs.Lay.{rightsOf}
-use Rattle.image.specs.Format.{lengthOf, sizesFit}
-use Rattle.image.specs.Spelling.{wordBytes}
-use Rattle.image.specs.Calls.{headerBytes, layRefusal, layOf, ImagePromise}
-use Rattle.image.proofs.Sizes.{sized}
+use Rattle.format.specs.Format.{lengthOf, sizesFit}
+use Rattle.format.specs.Spelling.{wordBytes}
+use Rattle.format.specs.Fresh.{headerBytes}
+use Rattle.image.specs.Calls.{layRefusal, layOf, ImagePromise}
+use Rattle.format.proofs.Sizes.{sized}
 use Rattle.image.proofs.Promised.{promise}
-use Rattle.image.proofs.Laying.{fresh-laid}
+use Rattle.format.proofs.Laying.{fresh-laid}
 
 pub record Layable (bytes max parties divide : ℕ) : Type 0 where
-  pub exact : bytes ≡ lengthOf max parties
+  pub exact : bytes ≡ lengthOf 1 max parties
   pub max-small : max ≤ 4094
   pub parties-few : parties ≤ 16
   pub divided : divide ≤ max
@@ -27,9 +28,9 @@ pub record Layable (bytes max parties divide : ℕ) : Type 0 where
 pub layable : (bytes max parties divide : ℕ) → layRefusal bytes max parties divide ≡ 0 → Layable bytes max parties divide
 unfolding layRefusal
 layable bytes max parties divide e =
-    let past1 = passed (not (sizesFit bytes max parties)) 0 _ e in
+    let past1 = passed (not (sizesFit 1 bytes max parties)) 0 _ e in
     let past8 = passed (not (leb divide max)) 7 0 (past1 .1) in
-    let fits = sized bytes max parties (not-false _ (past1 .0)) in
+    let fits = sized 1 bytes max parties (not-false _ (past1 .0)) in
     record {
       exact = fits .exact;
       max-small = max-within max (fits .max-fits) .1;
@@ -39,24 +40,24 @@ layable bytes max parties divide e =
 
 -- the image after each part was laid
 abbrev pub headed : List ℕ → (max parties : ℕ) → List ℕ
-headed image max parties = sets image 0 (headerBytes max parties)
+headed image max parties = sets image 0 (headerBytes 1 max parties)
 
 abbrev pub blank : List ℕ → (max parties : ℕ) → List ℕ
 blank image max parties = sets (headed image max parties) 8 (replicate (8 * (max + 2) + 32 * parties) 0)
 
 pub length-headed : (image : List ℕ) (max parties : ℕ) → length (headed image max parties) ≡ length image
-length-headed image max parties = length-sets image 0 (headerBytes max parties)
+length-headed image max parties = length-sets image 0 (headerBytes 1 max parties)
 
 pub length-blank : (image : List ℕ) (max parties : ℕ) → length (blank image max parties) ≡ length image
 length-blank image max parties =
     length-sets (headed image max parties) 8 (replicate (8 * (max + 2) + 32 * parties) 0) ∙ length-headed image max parties
 
 module _ (image : List ℕ) (max parties divide : ℕ) where
-  pub keeps-lay-size : sizesFit (length image) max parties ≡ false → ImagePromise (layOf image max parties divide) (Refused 1) image
+  pub keeps-lay-size : sizesFit 1 (length image) max parties ≡ false → ImagePromise (layOf image max parties divide) (Refused 1) image
   unfolding layOf layRefusal
   keeps-lay-size other = promise (rw other refl)
 
-  pub keeps-lay-divide : sizesFit (length image) max parties ≡ true → leb divide max ≡ false
+  pub keeps-lay-divide : sizesFit 1 (length image) max parties ≡ true → leb divide max ≡ false
       → ImagePromise (layOf image max parties divide) (Refused 8) image
   unfolding layOf layRefusal
   keeps-lay-divide sized past = promise (rw (sized, past) refl)
@@ -66,9 +67,9 @@ module _ (image : List ℕ) (max parties divide : ℕ) where
       → ImagePromise (layOf image max parties divide) GoesOn left
   unfolding layOf
   keeps-lay-done fits none left laid =
-      let fresh = laid ∙ fresh-laid image max parties divide (fits .divided) (fits .exact) in
+      let fresh = laid ∙ fresh-laid image 1 max parties divide (fits .divided) (fits .exact) in
       promise (rw (none, fresh) refl)
 
-  pub none-refused : sizesFit (length image) max parties ≡ true → leb divide max ≡ true → layRefusal (length image) max parties divide ≡ 0
+  pub none-refused : sizesFit 1 (length image) max parties ≡ true → leb divide max ≡ true → layRefusal (length image) max parties divide ≡ 0
   unfolding layRefusal
   none-refused sized low = rw (sized, low) refl

@@ -30,21 +30,23 @@ use Rattle.step.specs.Call.Call.{start, step, withdraw}
 use Rattle.step.specs.declared.Access.{Access}
 use Rattle.step.specs.declared.Access.the-variants.{Look, Swap}
 use Rattle.step.proofs.Cleared.{steppable, hint-fits-k}
-use Rattle.image.specs.Format.{wordPlace, recordPlace, maxAt}
-use Rattle.image.specs.Spelling.{stripOf, tableOf, RecordFits}
+use Rattle.format.specs.Format.{wordPlace, partyPlace, wordsBase}
+use Rattle.format.specs.Spelling.{stripOf, tableOf, RecordFits}
 use Rattle.little.proofs.Digits.{AreBytes, number-fits}
-use Rattle.image.proofs.Widths.{read-record-fits, idle-fits, begun-fits, aimed-fits, looked-fits, swapped-fits}
-use Rattle.image.proofs.Spelled.{strip-length, table-length, word-is-read, record-is-read}
+use Rattle.header.specs.Header.{versionAt}
+use Rattle.format.proofs.Records.{read-record-fits}
+use Rattle.image.proofs.Widths.{idle-fits, begun-fits, aimed-fits, looked-fits, swapped-fits}
+use Rattle.format.proofs.Spelled.{strip-length, table-length, word-is-read, record-is-read}
 use Rattle.party.specs.Operation.{isPush, isRight}
 use Rattle.step.specs.Stages.{own}
 
 pub words-fit : (image : List ℕ) → AreBytes image → Every IsWord 0 (stripOf image)
 words-fit image are i within =
-    rw (word-is-read image i (subst (λ (n : ℕ). i < n) (strip-length image) within)) (number-fits 8 image (wordPlace i) are)
+    rw (word-is-read image i (subst (λ (n : ℕ). i < n) (strip-length image) within)) (number-fits 8 image (wordPlace wordsBase i) are)
 
 pub records-fit : (image : List ℕ) → AreBytes image → Every RecordFits idle (tableOf image)
 records-fit image are i within =
-    rw (record-is-read image i (subst (λ (n : ℕ). i < n) (table-length image) within)) (read-record-fits image (recordPlace (maxAt image) i) are)
+    rw (record-is-read image i (subst (λ (n : ℕ). i < n) (table-length image) within)) (read-record-fits (versionAt image) image (partyPlace image i) are)
 
 -- What fits past the end too, where 0 and an idle record stand, fits everywhere.
 pub fits-anywhere : {A : Type 0} (P : A → Type 0) (past : A) (l : List A) → Every P past l → P past → (i : ℕ) → P (getD l i past)

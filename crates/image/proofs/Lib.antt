@@ -1,16 +1,9 @@
-pub mod Parts
-pub mod Words
-pub mod Records
 pub mod Made
 pub mod Widths
-pub mod Sizes
-pub mod Gated
-pub mod Spelled
 pub mod Leaves
 pub mod Called
 pub mod Owned
 pub mod Promised
-pub mod Laying
 pub mod Laid
 pub mod Kept
 pub mod Decoded

@@ -30,14 +30,15 @@ use Rattle.step.specs.declared.AfterSwap.{AfterSwap}
 use Rattle.step.proofs.Cleared.{Steppable, steppable, placeOf, place-inside, hint-fits-k}
 use Rattle.step.proofs.Accesses.{Gone, when-refused, when-looks, when-swaps}
 use Rattle.step.proofs.EachStage.{aimed-later}
-use Rattle.little.specs.Bytes.{numberAt}
-use Rattle.image.specs.Format.{wordPlace, maxAt}
-use Rattle.image.specs.Spelling.{stripOf}
-use Rattle.image.specs.Read.{namedRefusal, recorded, swapRecorded, metAt}
+use Rattle.header.specs.Header.{maxAt, versionAt}
+use Rattle.format.specs.Spelling.{stripOf}
+use Rattle.format.specs.Inside.{namedRefusal}
+use Rattle.format.specs.Format.{wordsBase}
+use Rattle.image.specs.Inside.{recorded, swapRecorded, metAt, seenAt}
 use Rattle.image.specs.Calls.{unchanged, imageOf}
 use Rattle.little.proofs.Digits.{AreBytes}
-use Rattle.image.proofs.Gated.{named-fits}
-use Rattle.image.proofs.Spelled.{strip-length, word-is-read}
+use Rattle.format.proofs.Gated.{named-fits}
+use Rattle.format.proofs.Spelled.{strip-length, word-is-read}
 use Rattle.image.proofs.Called.{strip-fits, max-of, placeIn, recordIn, own-refused, own-recorded, own-swapped}
 
 module _ (image : List ℕ) (party operation order : ℕ) (are : AreBytes image)
@@ -59,7 +60,7 @@ module _ (image : List ℕ) (party operation order : ℕ) (are : AreBytes image)
       own-refused image starting are clear _ (rw (start-own-is, ne-eqb _ 0 some) refl, refl)
 
   pub start-done : startOwn (maxAt image) (recordIn image starting) operation order ≡ 0 → order < 4294967296
-      → imageOf image starting ≡ record { answer = GoesOn; image = recorded image (placeIn image starting) (goingOn (begun operation order)) }
+      → imageOf image starting ≡ record { answer = GoesOn; image = recorded (versionAt image) image (placeIn image starting) (goingOn (begun operation order)) }
   unfolding startOf
   start-done none narrow =
       own-recorded image starting are clear narrow (goingOn (begun operation order)) (rw (start-own-is, none) refl, refl)
@@ -80,7 +81,7 @@ module _ (image : List ℕ) (party : ℕ) (are : AreBytes image) (clear : namedR
       own-refused image withdrawing are clear _ (rw (withdraw-own-is, ne-eqb _ 0 some) refl, refl)
 
   pub withdraw-done : withdrawOwn (maxAt image) (recordIn image withdrawing) ≡ 0
-      → imageOf image withdrawing ≡ record { answer = GoesOn; image = recorded image (placeIn image withdrawing) (goingOn idle) }
+      → imageOf image withdrawing ≡ record { answer = GoesOn; image = recorded (versionAt image) image (placeIn image withdrawing) (goingOn idle) }
   unfolding withdrawOf
   withdraw-done none =
       own-recorded image withdrawing are clear tt (goingOn idle) (rw (withdraw-own-is, none) refl, refl)
@@ -133,11 +134,11 @@ module _ (image : List ℕ) (party hint : ℕ) (are : AreBytes image) (clear : n
 
       pub step-looked : (place : ℕ) (then : AfterLook) → accessOf at ≡ Look place then
           → imageOf image stepping ≡ record {
-            answer = lookedOf (maxAt image) at then (numberAt 8 image (wordPlace place)) .answer;
-            image = recorded image (placeIn image stepping) (lookedOf (maxAt image) at then (numberAt 8 image (wordPlace place)));
+            answer = lookedOf (maxAt image) at then (seenAt image wordsBase place) .answer;
+            image = recorded (versionAt image) image (placeIn image stepping) (lookedOf (maxAt image) at then (seenAt image wordsBase place));
           }
       step-looked place then access =
-          let word = numberAt 8 image (wordPlace place) in
+          let word = seenAt image wordsBase place in
           let seen = word-is-read image place (access-inside (Look place then) access) in
           let step = when-looks (stripOf image) before hint at passes a place then word access (sym seen) in
           own-recorded image stepping are clear tt (lookedOf (maxAt image) at then word)
@@ -145,10 +146,10 @@ module _ (image : List ℕ) (party hint : ℕ) (are : AreBytes image) (clear : n
 
       pub step-swapped : (place from to : ℕ) (then : AfterSwap) → accessOf at ≡ Swap place from to then
           → imageOf image stepping ≡ record {
-            answer = swappedOf at then (metAt image place from) .answer;
-            image = swapRecorded (metAt image place from) image (placeIn image stepping) place (raisedTo from to) (swappedOf at then (metAt image place from));
+            answer = swappedOf at then (metAt image wordsBase place from) .answer;
+            image = swapRecorded (metAt image wordsBase place from) image wordsBase (placeIn image stepping) place (raisedTo from to) (swappedOf at then (metAt image wordsBase place from));
           }
-      step-swapped place from to then access = go (swap-goes (numberAt 8 image (wordPlace place)) from)
+      step-swapped place from to then access = go (swap-goes (seenAt image wordsBase place) from)
         where
           inside : place < maxAt image + 2
           inside = access-inside (Swap place from to then) access
@@ -156,10 +157,10 @@ module _ (image : List ℕ) (party hint : ℕ) (are : AreBytes image) (clear : n
           Went : Swapped → Type 0
           Went met = imageOf image stepping ≡ record {
             answer = swappedOf at then met .answer;
-            image = swapRecorded met image (placeIn image stepping) place (raisedTo from to) (swappedOf at then met);
+            image = swapRecorded met image wordsBase (placeIn image stepping) place (raisedTo from to) (swappedOf at then met);
           }
 
-          owned : (met : Swapped) → metAt image place from ≡ met
+          owned : (met : Swapped) → metAt image wordsBase place from ≡ met
               → Gone (stripOf image) before hint (swappedOf at then met) (wordsAfter met (stripOf image) place (raisedTo from to))
           owned met e =
               let same : met ≡ swapOf (getD (stripOf image) place 0) from =
@@ -168,13 +169,13 @@ module _ (image : List ℕ) (party hint : ℕ) (are : AreBytes image) (clear : n
               (wordsAfter met (stripOf image) place (raisedTo from to)) access
               (record { answered = same; words = ap (λ (t : Swapped). wordsAfter t (stripOf image) place (raisedTo from to)) same })
 
-          go : SwapGoes (numberAt 8 image (wordPlace place)) from → Went (metAt image place from)
+          go : SwapGoes (seenAt image wordsBase place) from → Went (metAt image wordsBase place from)
           go (SwapGoes.won took e) =
               let step = owned Won e in
               subst Went (sym e)
               (own-swapped image stepping are clear tt (swappedOf at then Won) place (raisedTo from to) (step .answered, step .words) inside)
           go (SwapGoes.lost other e) =
-              let met = numberAt 8 image (wordPlace place) in
+              let met = seenAt image wordsBase place in
               let step = owned (Lost met) e in
               subst Went (sym e)
               (own-recorded image stepping are clear tt (swappedOf at then (Lost met)) (step .answered, step .words))

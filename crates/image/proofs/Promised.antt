@@ -8,7 +8,6 @@ use lib.Seq.{sets}
 use lib.Dec.{ltb}
 use native.Mathlib.Omega.{arith}
 use Rattle.party.specs.Record.{idle, begun}
-use Rattle.party.specs.Answer.{numberOf, carriedOf}
 use Rattle.party.specs.Calls.{startOwn, withdrawOwn}
 use Rattle.party.specs.declared.Record.{Record}
 use Rattle.party.specs.declared.Answer.{Answer}
@@ -21,13 +20,15 @@ use Rattle.step.specs.declared.Access.the-variants.{Look, Swap}
 use Rattle.step.specs.declared.AfterLook.{AfterLook}
 use Rattle.step.specs.declared.AfterSwap.{AfterSwap}
 use Rattle.step.proofs.Cleared.{placeOf}
-use Rattle.image.specs.Format.{wordPlace, maxAt}
-use Rattle.image.specs.Spelling.{recordAt, recordBytes}
-use Rattle.image.specs.Read.{NamedRead, namedRefusal, LookMade, SwapMade}
+use Rattle.header.specs.Header.{maxAt, versionAt}
+use Rattle.format.specs.Format.{wordPlace, wordsBase}
+use Rattle.format.specs.Spelling.{recordAt, recordBytes}
+use Rattle.format.specs.Inside.{namedRefusal, namedOf}
+use Rattle.image.specs.Inside.{LookMade, SwapMade}
 use Rattle.image.specs.Calls.{Done, imageOf, ImagePromise}
-use Rattle.image.specs.declared.Named.{Named}
+use Rattle.format.specs.declared.Named.{Named}
 use Rattle.little.proofs.Digits.{AreBytes}
-use Rattle.image.proofs.Gated.{named-fits}
+use Rattle.format.proofs.Gated.{named-number, named-found, named-fits}
 use Rattle.image.proofs.Called.{stopped, placeIn, recordIn}
 use Rattle.image.proofs.Owned.{start-refused, start-done, withdraw-refused, withdraw-done, step-refused, hint-fits, access-inside, step-looked, step-swapped}
 
@@ -36,29 +37,34 @@ pub promise : {wanted : Done} {answer : Answer} {left : List ℕ} → wanted ≡
     → ImagePromise wanted answer left
 promise e =
     record {
-      number = ap (λ (d : Done). numberOf (d .answer)) (sym e);
-      carried = ap (λ (d : Done). carriedOf (d .answer)) (sym e);
+      answered = ap (λ (d : Done). d .answer) (sym e);
       bytes = ap (λ (d : Done). d .image) (sym e);
     }
 
 module _ (image : List ℕ) (call : Call) (found : Named) (are : AreBytes image)
-    (read : NamedRead image (isUnknown call) (partyOf call) found) where
+    (read : found ≡ namedOf image (isUnknown call) (partyOf call)) where
+  number-read : found .number ≡ namedRefusal image (isUnknown call) (partyOf call)
+  number-read = ap (λ (n : Named). n .number) read ∙ named-number image (isUnknown call) (partyOf call)
+
   -- refused before the record's own checks
   pub keeps-stopped : (found .number ≡ 0 → ⊥) → ImagePromise (imageOf image call) (Refused (found .number)) image
   keeps-stopped some =
-      let e = read .number-read in
       promise
-      (stopped image call are (λ z. some (e ∙ z)) ∙ ap (λ (n : ℕ). record { answer = Refused n; image = image }) (sym e))
+      (stopped image call are (λ z. some (number-read ∙ z))
+      ∙ ap (λ (n : ℕ). record { answer = Refused n; image = image }) (sym number-read))
 
   module _ (zero : found .number ≡ 0) where
     pub clear : namedRefusal image (isUnknown call) (partyOf call) ≡ 0
-    clear = sym (read .number-read) ∙ zero
+    clear = sym number-read ∙ zero
+
+    found-is : found ≡ record { number = 0; max = maxAt image; at = placeIn image call }
+    found-is = read ∙ named-found image (isUnknown call) (partyOf call) clear
 
     pub at-is : found .at ≡ placeIn image call
-    at-is = read .at-read clear
+    at-is = ap (λ (n : Named). n .at) found-is
 
     pub max-is : found .max ≡ maxAt image
-    max-is = read .max-read clear
+    max-is = ap (λ (n : Named). n .max) found-is
 
     -- the named record is inside the image
     pub room : found .at + 32 ≤ length image
@@ -67,8 +73,8 @@ module _ (image : List ℕ) (call : Call) (found : Named) (are : AreBytes image)
         omega (arith, at-is, fits .sized-right .exact, fits .party-known)
 
 module _ (image : List ℕ) (party operation order : ℕ) (found : Named) (are : AreBytes image)
-    (read : NamedRead image (ltb 3 operation) party found) (zero : found .number ≡ 0)
-    (r : Record) (r-is : r ≡ recordAt image (found .at)) (number : ℕ) (number-is : number ≡ startOwn (found .max) r operation order) where
+    (read : found ≡ namedOf image (ltb 3 operation) party) (zero : found .number ≡ 0)
+    (r : Record) (r-is : r ≡ recordAt (versionAt image) image (found .at)) (number : ℕ) (number-is : number ≡ startOwn (found .max) r operation order) where
   abbrev starting : Call
   starting = Call.start party operation order
 
@@ -84,7 +90,7 @@ module _ (image : List ℕ) (party operation order : ℕ) (found : Named) (are :
       (start-refused image party operation order are (clear image starting found are read zero) (λ z. some (own-start ∙ z))
       ∙ ap (λ (n : ℕ). record { answer = Refused n; image = image }) (sym own-start))
 
-  pub keeps-start-done : number ≡ 0 → order < 4294967296 → (left : List ℕ) → left ≡ sets image (found .at) (recordBytes (begun operation order))
+  pub keeps-start-done : number ≡ 0 → order < 4294967296 → (left : List ℕ) → left ≡ sets image (found .at) (recordBytes (versionAt image) (begun operation order))
       → ImagePromise (imageOf image starting) GoesOn left
   keeps-start-done none narrow left e =
       let at = at-is image starting found are read zero in
@@ -93,8 +99,8 @@ module _ (image : List ℕ) (party operation order : ℕ) (found : Named) (are :
       ∙ ap (λ (l : List ℕ). record { answer = GoesOn; image = l }) (sym (e ∙ rw at refl)))
 
 module _ (image : List ℕ) (party : ℕ) (found : Named) (are : AreBytes image)
-    (read : NamedRead image false party found) (zero : found .number ≡ 0)
-    (r : Record) (r-is : r ≡ recordAt image (found .at)) (number : ℕ) (number-is : number ≡ withdrawOwn (found .max) r) where
+    (read : found ≡ namedOf image false party) (zero : found .number ≡ 0)
+    (r : Record) (r-is : r ≡ recordAt (versionAt image) image (found .at)) (number : ℕ) (number-is : number ≡ withdrawOwn (found .max) r) where
   abbrev withdrawing : Call
   withdrawing = Call.withdraw party
 
@@ -110,7 +116,7 @@ module _ (image : List ℕ) (party : ℕ) (found : Named) (are : AreBytes image)
       (withdraw-refused image party are (clear image withdrawing found are read zero) (λ z. some (own-withdraw ∙ z))
       ∙ ap (λ (n : ℕ). record { answer = Refused n; image = image }) (sym own-withdraw))
 
-  pub keeps-withdraw-done : number ≡ 0 → (left : List ℕ) → left ≡ sets image (found .at) (recordBytes idle)
+  pub keeps-withdraw-done : number ≡ 0 → (left : List ℕ) → left ≡ sets image (found .at) (recordBytes (versionAt image) idle)
       → ImagePromise (imageOf image withdrawing) GoesOn left
   keeps-withdraw-done none left e =
       let at = at-is image withdrawing found are read zero in
@@ -121,9 +127,9 @@ module _ (image : List ℕ) (party : ℕ) (found : Named) (are : AreBytes image)
 -- what a step has read once its record's own checks have a number
 pub record Weighed (image : List ℕ) (party hint : ℕ) (found : Named) (r : Record) (number : ℕ) : Type 0 where
   pub are : AreBytes image
-  pub read : NamedRead image false party found
+  pub read : found ≡ namedOf image false party
   pub zero : found .number ≡ 0
-  pub record-is : r ≡ recordAt image (found .at)
+  pub record-is : r ≡ recordAt (versionAt image) image (found .at)
   pub number-is : number ≡ stepOwn (found .max) r hint
 
 module _ (image : List ℕ) (party hint : ℕ) (found : Named) (r : Record) (number : ℕ) (w : Weighed image party hint found r number) where
@@ -163,21 +169,21 @@ module _ (image : List ℕ) (party hint : ℕ) (found : Named) (r : Record) (num
       aim-is = a ∙ ap (λ (x : Record). aimed x hint) r-in
 
       -- the word of the access is inside the image
-      pub access-room : (l : Access) → accessOf at ≡ l → wordPlace (placeOf l) + 8 ≤ length image
+      pub access-room : (l : Access) → accessOf at ≡ l → wordPlace wordsBase (placeOf l) + 8 ≤ length image
       access-room l access =
           let fits = named-fits image false party named in
           let inside = access-inside image party hint are named (sym own-step ∙ none) at aim-is l access in
           omega (arith, fits .sized-right .exact, inside)
 
       pub keeps-look : (place : ℕ) (then : AfterLook) → accessOf at ≡ Look place then → {answer : Answer} {left : List ℕ}
-          → LookMade image (found .at) (found .max) at place then answer left → ImagePromise (imageOf image stepping) answer left
+          → LookMade image wordsBase (found .at) (found .max) at place then answer left → ImagePromise (imageOf image stepping) answer left
       keeps-look place then access made =
           promise
           (step-looked image party hint are named (sym own-step ∙ none) at aim-is place then access
           ∙ sym (rw (made .answered, made .bytes-left, spot, wide) refl))
 
       pub keeps-swap : (place from to : ℕ) (then : AfterSwap) → accessOf at ≡ Swap place from to then → {answer : Answer} {left : List ℕ}
-          → SwapMade image (found .at) at place from to then answer left → ImagePromise (imageOf image stepping) answer left
+          → SwapMade image wordsBase (found .at) at place from to then answer left → ImagePromise (imageOf image stepping) answer left
       keeps-swap place from to then access made =
           promise
           (step-swapped image party hint are named (sym own-step ∙ none) at aim-is place from to then access

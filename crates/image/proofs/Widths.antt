@@ -1,8 +1,7 @@
 -- The records that the calls leave fit the widths of the image.
-use Prim.Native.Nat.{ℕ, _+_, _<_}
+use Prim.Native.Nat.{ℕ, _<_}
 use mathlib.Core.Path.{_≡_, refl}
 use mathlib.Core.Bool.{Bool, true, false}
-use mathlib.Core.List.{List}
 use lib.Dec.{eqb}
 use borrow.Author.Tests.{eqb-true}
 use native.Mathlib.Omega.{arith}
@@ -20,20 +19,7 @@ use Rattle.step.specs.declared.AfterLook.{AfterLook}
 use Rattle.step.specs.declared.AfterLook.the-variants.{Remember, Judge, Recheck}
 use Rattle.step.specs.declared.AfterSwap.{AfterSwap}
 use Rattle.step.specs.declared.AfterSwap.the-variants.{Onward, Push, Pop}
-use Rattle.image.specs.Spelling.{recordAt, RecordFits}
-use Rattle.little.proofs.Digits.{AreBytes, number-fits}
-
-pub read-record-fits : (l : List ℕ) (at : ℕ) → AreBytes l → RecordFits (recordAt l at)
-unfolding recordAt
-read-record-fits l at are =
-    record {
-      operation-fits = are at;
-      stage-fits = are (at + 1);
-      k-fits = number-fits 2 l (at + 2) are;
-      v-fits = number-fits 4 l (at + 4) are;
-      first-fits = number-fits 8 l (at + 8) are;
-      second-fits = number-fits 8 l (at + 16) are;
-    }
+use Rattle.format.specs.Spelling.{RecordFits}
 
 pub idle-fits : RecordFits idle
 idle-fits = omega arith

@@ -1,19 +1,18 @@
--- The four calls on an image: the number, the carried order and every byte that each leaves.
-use Prim.Native.Nat.{ℕ, _+_, _*_}
+-- The four calls on an image: the answer and every byte that each leaves.
+use Prim.Native.Nat.{ℕ, _+_}
 use mathlib.Core.Path.{_≡_}
 use mathlib.Core.Bool.{Bool, not, _&&_}
-use mathlib.Core.List.{List, _∷_, _++_}
-use lib.ListN.{length, replicate}
+use mathlib.Core.List.{List}
+use lib.ListN.{length}
 use lib.Dec.{eqb, leb}
 use Rattle.logic.specs.Pick.{pick}
-use Rattle.party.specs.Answer.{numberOf, carriedOf}
 use Rattle.party.specs.declared.Answer.{Answer}
 use Rattle.party.specs.declared.Answer.the-variants.{GoesOn, Refused}
 use Rattle.step.specs.Call.{Call, partyOf, gate, Left, callOf}
-use Rattle.strip.specs.Lay.{freshStrip}
-use Rattle.little.specs.Bytes.{bytesOf}
-use Rattle.image.specs.Format.{recordPlace, maxAt, partiesAt, sizesFit, headerRefusal}
-use Rattle.image.specs.Spelling.{stripOf, tableOf, isSpare, wordBytes, spelled}
+use Rattle.header.specs.Header.{versionAt, partiesAt, maxAt}
+use Rattle.format.specs.Format.{sizesFit, headerRefusal, partyPlace}
+use Rattle.format.specs.Spelling.{stripOf, tableOf, isSpare, spelled}
+use Rattle.format.specs.Fresh.{freshImage}
 
 -- what a call answers, and the image it leaves
 pub record Done : Type 0 where
@@ -33,7 +32,7 @@ encoded image left = record { answer = left .answer; image = spelled image (left
 -- the named record's spare bytes are looked at once the party is known
 abbrev pub spareRefused : List ℕ → Call → Bool
 spareRefused image call =
-    eqb (gate (maxAt image + 2) (partiesAt image) call) 0 && not (isSpare image (recordPlace (maxAt image) (partyOf call)))
+    eqb (gate (maxAt image + 2) (partiesAt image) call) 0 && not (isSpare (versionAt image) image (partyPlace image (partyOf call)))
 
 unfoldable pub imageOf : List ℕ → Call → Done
 imageOf image call =
@@ -41,27 +40,18 @@ imageOf image call =
     (pick (spareRefused image call) (unchanged 4 image)
     (encoded image (decoded image call)))
 
--- a fresh image: the header, a fresh strip, all records zero
-abbrev pub headerBytes : (max parties : ℕ) → List ℕ
-headerBytes max parties = 80 ∷ 68 ∷ 83 ∷ (bytesOf 2 1 ++ (parties ∷ bytesOf 2 max))
-
-abbrev pub freshImage : (max parties divide : ℕ) → List ℕ
-freshImage max parties divide =
-    headerBytes max parties ++ (wordBytes (freshStrip max divide) ++ replicate (32 * parties) 0)
-
--- laying looks at the length only, at no byte already there
+-- lay makes images of version 1; it looks at the length only, at no byte already there
 unfoldable pub layRefusal : (bytes max parties divide : ℕ) → ℕ
 layRefusal bytes max parties divide =
-    pick (not (sizesFit bytes max parties)) 1 (pick (not (leb divide max)) 8 0)
+    pick (not (sizesFit 1 bytes max parties)) 1 (pick (not (leb divide max)) 8 0)
 
 unfoldable pub layOf : List ℕ → (max parties divide : ℕ) → Done
 layOf image max parties divide =
     pick (eqb (layRefusal (length image) max parties divide) 0)
-    (record { answer = GoesOn; image = freshImage max parties divide })
+    (record { answer = GoesOn; image = freshImage 1 max parties divide })
     (unchanged (layRefusal (length image) max parties divide) image)
 
--- What each call promises: the number, the carried order and every byte it was lent.
+-- What each call promises: the answer and every byte it was lent.
 pub record ImagePromise (wanted : Done) (answer : Answer) (left : List ℕ) : Type 0 where
-  pub number : numberOf answer ≡ numberOf (wanted .answer)
-  pub carried : carriedOf answer ≡ carriedOf (wanted .answer)
+  pub answered : answer ≡ wanted .answer
   pub bytes : left ≡ wanted .image

@@ -1,4 +1,2 @@
-pub mod Format
-pub mod Spelling
-pub mod Read
 pub mod Calls
+pub mod Inside

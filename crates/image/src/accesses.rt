@@ -1,7 +1,7 @@
-// An access made in the bytes of an image, and what follows it written in the record at a place.
-// Private to the crate, whose calls have checked the header: these ask that the bytes lie inside.
-use crate::memory::look_in;
-use crate::record::write_record;
+// An access made in the bytes of an image, in the strip that begins at a base, and what follows it written in the record at a place.
+// Private to the crate, whose step has checked the header: these ask that the bytes lie inside.
+use format::record::write_record;
+use little::number_8;
 use little::put_8;
 use party::Answer;
 use party::Record;
@@ -17,32 +17,40 @@ use word::value;
 ghost use mathlib.Core.Path.{_≡_};
 ghost use Prim.Native.Nat.{_+_, _≤_};
 ghost use lib.ListN.{length};
-ghost use Rattle.image.specs.Format.{wordPlace};
-ghost use Rattle.image.specs.Read.{LookMade, SwapMade};
+ghost use Rattle.format.specs.Format.{wordPlace};
+ghost use Rattle.image.specs.Inside.{seenAt, LookMade, SwapMade};
 
-// A look, and what follows it. Step calls it, past its checks.
+fn look_in(image: &[u8], base: usize, place: u32) -> u64
+    requires { ⌜ wordPlace base place + 8 ≤ length (now image) ⌝ }
+    ensures { λ w. ⌜ w ≡ seenAt (now (image .entry)) base place ⌝ }
+{
+    number_8(image, base + 8 * (place as usize))
+}
+
+// A look, and what follows it.
 pub fn make_look(
     image: &mut [u8],
+    base: usize,
     at: usize,
     max: u16,
     r: Record,
     place: u32,
     then: AfterLook,
 ) -> Answer
-    requires { ⌜ (at + 32 ≤ length (now image)) × (wordPlace place + 8 ≤ length (now image)) ⌝ }
-    ensures { λ a. ⌜ LookMade (now (image .entry)) at max r place then a (now (image .exit)) ⌝ }
+    requires { ⌜ (at + 32 ≤ length (now image)) × (wordPlace base place + 8 ≤ length (now image)) ⌝ }
+    ensures { λ a. ⌜ LookMade (now (image .entry)) base at max r place then a (now (image .exit)) ⌝ }
 {
-    let got = looked(max, r, then, look_in(image, place));
+    let got = looked(max, r, then, look_in(image, base, place));
     let answer = got.answer;
     write_record(image, at, got.rec);
     answer
 }
 
 // A swap that lost begins again; one that would win at the counter's end writes nothing; one that won writes word and record.
-// Step calls it, past its checks. What follows is written out here, not taken from step's `swapped`: the record then need not be
-// built before it is known.
+// What follows is written out here, not taken from step's `swapped`: the record then need not be built before it is known.
 pub fn make_swap(
     image: &mut [u8],
+    base: usize,
     at: usize,
     r: Record,
     place: u32,
@@ -50,17 +58,17 @@ pub fn make_swap(
     to: u32,
     then: AfterSwap,
 ) -> Answer
-    requires { ⌜ (at + 32 ≤ length (now image)) × (wordPlace place + 8 ≤ length (now image)) ⌝ }
-    ensures { λ a. ⌜ SwapMade (now (image .entry)) at r place from to then a (now (image .exit)) ⌝ }
+    requires { ⌜ (at + 32 ≤ length (now image)) × (wordPlace base place + 8 ≤ length (now image)) ⌝ }
+    ensures { λ a. ⌜ SwapMade (now (image .entry)) base at r place from to then a (now (image .exit)) ⌝ }
 {
-    if look_in(image, place) != from {
+    if look_in(image, base, place) != from {
         write_record(image, at, begun_again(r));
         return Answer::GoesOn;
     }
     if counter(from) == 4294967295 {
         return Answer::Refused(9);
     }
-    put_8(image, 8 + 8 * (place as usize), raised(from, to));
+    put_8(image, base + 8 * (place as usize), raised(from, to));
     match then {
         AfterSwap::Onward => {
             write_record(image, at, at_stage(5, r));

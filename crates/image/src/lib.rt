@@ -1,19 +1,16 @@
-// The image: four calls on lent bytes. Its header and its records are public for the crate of whole images, which checks lengths first.
+// The image: four calls on lent bytes.
 mod accesses;
-pub mod fresh;
-pub mod gate;
-mod memory;
-pub mod record;
 
 use crate::accesses::make_look;
 use crate::accesses::make_swap;
-use crate::fresh::lay_header;
-use crate::fresh::lay_rights;
-use crate::fresh::lay_zeros;
-use crate::gate::read_named;
-use crate::gate::sizes_fit;
-use crate::record::read_record;
-use crate::record::write_record;
+use format::WORDS;
+use format::fresh::lay_header;
+use format::fresh::lay_rights;
+use format::fresh::lay_zeros;
+use format::gate::read_named;
+use format::gate::sizes_fit;
+use format::record::read_record;
+use format::record::write_record;
 use party::Answer;
 use party::make::begun_record;
 use party::make::idle_record;
@@ -26,33 +23,23 @@ use step::step_own;
 ghost use Rattle.step.specs.Call.{Call};
 ghost use Rattle.image.specs.Calls.{layOf, imageOf, ImagePromise};
 
-// A header: its refusal, 0 for none, and MAX and the party count of one that is taken.
-pub struct Header {
-    pub number: u32,
-    pub max: u16,
-    pub parties: u8,
-}
-
-// The named party's record: its refusal, 0 for none, and of one that is not refused MAX and where the record stands.
-pub struct Named {
-    pub number: u32,
-    pub max: u16,
-    pub at: usize,
-}
-
 // Lay: a fresh image. It looks at the length only, at no byte already there.
 pub fn lay(image: &mut [u8], max: u32, parties: u32, divide: u32) -> Answer
     ensures { λ a. ⌜ ImagePromise (layOf (now (image .entry)) max parties divide) a (now (image .exit)) ⌝ }
 {
-    if !sizes_fit(image.len(), max, parties) {
+    if !sizes_fit(1, image.len(), max, parties) {
         return Answer::Refused(1);
     }
     if max < divide {
         return Answer::Refused(8);
     }
-    lay_header(image, max as u16, parties as u8);
-    lay_zeros(image, 8, 8 * (max as usize + 2) + 32 * (parties as usize));
-    lay_rights(image, max as u16, divide);
+    lay_header(image, 1, max as u16, parties as u8);
+    lay_zeros(
+        image,
+        WORDS,
+        8 * (max as usize + 2) + 32 * (parties as usize),
+    );
+    lay_rights(image, WORDS, max as u16, divide);
     Answer::GoesOn
 }
 
@@ -88,9 +75,18 @@ pub fn step(image: &mut [u8], party: u32, hint: u32) -> Answer
     }
     let aimed = aim(r, hint);
     match access(aimed) {
-        Access::Look(place, then) => make_look(image, found.at, found.max, aimed, place, then),
+        Access::Look(place, then) => make_look(
+            image,
+            WORDS,
+            found.at,
+            found.max,
+            aimed,
+            place,
+            then,
+        ),
         Access::Swap(place, from, to, then) => make_swap(
             image,
+            WORDS,
             found.at,
             aimed,
             place,

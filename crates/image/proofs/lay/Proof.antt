@@ -8,8 +8,8 @@ use denote.Ref.{now}
 use borrow.Author.Tests.{not-true, not-false, le-leb, lt-leb}
 use native.Mathlib.Omega.{arith}
 use Rattle.strip.specs.Lay.{rightsOf}
-use Rattle.image.specs.Format.{sizesFit}
-use Rattle.image.specs.Spelling.{wordBytes}
+use Rattle.format.specs.Format.{sizesFit}
+use Rattle.format.specs.Spelling.{wordBytes}
 use Rattle.image.specs.Calls.{layRefusal}
 use Rattle.image.proofs.Laid.{Layable, layable, blank, length-headed, length-blank, none-refused, keeps-lay-size, keeps-lay-divide, keeps-lay-done}
 use borrow.Author.Needs.{needs}
@@ -17,7 +17,7 @@ use Rattle.image.proofs.lay.Statement.{statement}
 use Rattle.image.proofs.lay.Tie as tie
 
 -- past the first refusal the sizes fit
-sized : (c : tie.Else1) → sizesFit (length (now (c .before .before .before .args .image))) (c .before .before .before .args .max) (c .before .before .before .args .parties) ≡ true
+sized : (c : tie.Else1) → sizesFit 1 (length (now (c .before .before .before .args .image))) (c .before .before .before .args .max) (c .before .before .before .args .parties) ≡ true
 sized c = sym (c .before .sizes-fit .ensures) ∙ not-false (c .before .sizes-fit .result) (c .if1 .left)
 
 -- past both: what the call was handed, and that it fits

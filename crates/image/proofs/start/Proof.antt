@@ -5,12 +5,13 @@ use lib.Seq.{sets}
 use denote.Ref.{now}
 use native.Mathlib.Omega.{arith}
 use Rattle.party.specs.declared.Record.{Record}
-use Rattle.image.specs.Spelling.{recordBytes}
+use Rattle.format.specs.Spelling.{recordBytes}
 use Rattle.little.proofs.Digits.{AreBytes}
 use lib.Dec.{ltb}
 use borrow.Author.Tests.{ltb-false}
 use Rattle.step.specs.Call.{Call}
-use Rattle.image.proofs.Gated.{named-fits}
+use Rattle.format.proofs.Gated.{named-fits}
+use Rattle.header.specs.Header.{versionAt}
 use Rattle.image.proofs.Promised.{keeps-stopped, clear, room, keeps-start-refused, keeps-start-done}
 use borrow.Author.Needs.{needs}
 use Rattle.image.proofs.start.Statement.{statement}
@@ -90,7 +91,7 @@ returns-3 c =
     let s = f .before .before .before in
     keeps-start-done _ _ _ (s .args .order) _ (bytes-of f) (f .read-named .ensures) (r .before .before .if1 .left) _ (r .read-record .ensures) _ (own .start-own .ensures) (wrote .before .before .before .if2 .left)
     (omega (arith, s .fits)) _
-    (wrote .write-record .ensures ∙ ap (λ (rec : Record). sets (image-of f) (f .read-named .result .at) (recordBytes rec)) (wrote .before .begun-record .ensures))
+    (wrote .write-record .ensures ∙ ap (λ (rec : Record). sets (image-of f) (f .read-named .result .at) (recordBytes (versionAt (image-of f)) rec)) (wrote .before .begun-record .ensures))
 
 pub start-spec : {M : Type 1} → statement M
 start-spec =

@@ -8,7 +8,7 @@ use Rattle.little.proofs.Digits.{AreBytes}
 use Rattle.step.specs.Call.{Call}
 use Rattle.step.specs.declared.Access.{Access}
 use Rattle.step.proofs.Cleared.{placeOf}
-use Rattle.image.specs.Format.{wordPlace}
+use Rattle.format.specs.Format.{wordPlace, wordsBase}
 use Rattle.image.proofs.Promised.{keeps-stopped, room, Weighed, keeps-step-refused, hint-fits-k, access-room, keeps-look, keeps-swap}
 use borrow.Author.Needs.{needs}
 use Rattle.image.proofs.step.Statement.{statement}
@@ -44,7 +44,7 @@ roomy c =
     room (image-of f) (Call.step _ (f .before .before .before .args .hint)) (f .read-named .result) (bytes-of f) (f .read-named .ensures) (c .before .before .before .before .if1 .left)
 
 inside-at : (c : tie.After-access) (l : Access) → c .access .result ≡ l
-    → wordPlace (placeOf l) + 8 ≤ length (image-of (found (c .before .before .before)))
+    → wordPlace wordsBase (placeOf l) + 8 ≤ length (image-of (found (c .before .before .before)))
 inside-at c l e =
     let past = c .before .before in
     access-room _ _ _ _ _ _ (weighed (past .before)) (past .if2 .left) _ (c .before .aim .ensures) l (sym (c .access .ensures) ∙ e)

@@ -5,9 +5,10 @@ use lib.Seq.{sets}
 use denote.Ref.{now}
 use native.Mathlib.Omega.{arith}
 use Rattle.party.specs.declared.Record.{Record}
-use Rattle.image.specs.Spelling.{recordBytes}
+use Rattle.format.specs.Spelling.{recordBytes}
 use Rattle.little.proofs.Digits.{AreBytes}
 use Rattle.step.specs.Call.{Call}
+use Rattle.header.specs.Header.{versionAt}
 use Rattle.image.proofs.Promised.{keeps-stopped, room, keeps-withdraw-refused, keeps-withdraw-done}
 use borrow.Author.Needs.{needs}
 use Rattle.image.proofs.withdraw.Statement.{statement}
@@ -68,7 +69,7 @@ returns-3 c =
     let r = own .before in
     let f = r .before .before .before .before in
     keeps-withdraw-done _ _ _ (bytes-of f) (f .read-named .ensures) (r .before .before .if1 .left) _ (r .read-record .ensures) _ (own .withdraw-own .ensures) (wrote .before .before .before .if2 .left) _
-    (wrote .write-record .ensures ∙ ap (λ (rec : Record). sets (image-of f) (f .read-named .result .at) (recordBytes rec)) (wrote .before .idle-record .ensures))
+    (wrote .write-record .ensures ∙ ap (λ (rec : Record). sets (image-of f) (f .read-named .result .at) (recordBytes (versionAt (image-of f)) rec)) (wrote .before .idle-record .ensures))
 
 pub withdraw-spec : {M : Type 1} → statement M
 withdraw-spec =

@@ -2,7 +2,8 @@ use mathlib.Core.Path.{_∙_, ap}
 use denote.Ref.{now}
 use Rattle.party.specs.declared.Answered.{Answered}
 use Rattle.step.specs.Follow.{lookedOf}
-use Rattle.image.specs.Read.{recorded}
+use Rattle.header.specs.Header.{versionAt}
+use Rattle.image.specs.Inside.{recorded}
 use borrow.Author.Needs.{needs}
 use Rattle.image.proofs.accesses.make_look.Statement.{statement}
 use Rattle.image.proofs.accesses.make_look.Tie as tie
@@ -27,7 +28,7 @@ returns c =
     let e = looked .looked .ensures ∙ ap (lookedOf (a .max) (a .r) (a .then)) (looked .before .look-in .ensures) in
     record {
       answered = ap (λ (given : Answered). given .answer) e;
-      bytes-left = wrote .write-record .ensures ∙ ap (recorded (now (a .image)) (a .at)) e;
+      bytes-left = wrote .write-record .ensures ∙ ap (recorded (versionAt (now (a .image))) (now (a .image)) (a .at)) e;
     }
 
 pub make-look-spec : {M : Type 1} → statement M

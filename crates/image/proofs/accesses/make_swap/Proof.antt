@@ -9,40 +9,44 @@ use Rattle.party.specs.declared.Answer.the-variants.{Popped}
 use Rattle.party.specs.declared.Answered.{Answered}
 use Rattle.step.specs.declared.AfterSwap.{AfterSwap}
 use Rattle.step.specs.declared.AfterSwap.the-variants.{Onward, Push, Pop}
-use Rattle.image.specs.Spelling.{recordBytes}
+use Rattle.format.specs.Spelling.{recordBytes}
 use Rattle.step.specs.Follow.{wonOf}
-use Rattle.little.specs.Bytes.{numberAt, bytesOf}
-use Rattle.image.specs.Format.{wordPlace}
-use Rattle.image.specs.Read.{recorded, SwapMade}
+use Rattle.little.specs.Bytes.{bytesOf}
+use Rattle.format.specs.Format.{wordPlace}
+use Rattle.header.specs.Header.{versionAt}
+use Rattle.image.specs.Inside.{recorded, SwapMade, seenAt}
 use Rattle.image.proofs.Made.{made-lost, made-stuck, made-won}
 use borrow.Author.Needs.{needs}
 use Rattle.image.proofs.accesses.make_swap.Statement.{statement}
 use Rattle.image.proofs.accesses.make_swap.Tie as tie
 
 -- the word that was met is the one expected
-same : (c : tie.Else1) → numberAt 8 (now (c .before .before .before .before .args .image)) (wordPlace (c .before .before .before .before .args .place)) ≡ c .before .before .before .before .args .from
+same : (c : tie.Else1)
+    → seenAt (now (c .before .before .before .before .args .image)) (c .before .before .before .before .args .base) (c .before .before .before .before .args .place)
+    ≡ c .before .before .before .before .args .from
 same c = sym (c .before .look-in .ensures) ∙ c .if1 .left
 
 abbrev begin : tie.After-put-8 → tie.Start
 begin c = c .before .before .before .before .before .before .before .before .before
 
 -- what a record that is written as another says of the bytes
-written : (image : List ℕ) (at : ℕ) {r s : Record} → r ≡ s → sets image at (recordBytes r) ≡ sets image at (recordBytes s)
-written image at = ap (λ (r : Record). sets image at (recordBytes r))
+written : (image : List ℕ) (at : ℕ) {r s : Record} → r ≡ s
+    → sets image at (recordBytes (versionAt image) r) ≡ sets image at (recordBytes (versionAt image) s)
+written image at = ap (λ (r : Record). sets image at (recordBytes (versionAt image) r))
 
 -- past the store of the word: what follows a swap that won is answered and recorded
 won-made : (c : tie.After-put-8) (then : AfterSwap) → begin c .args .then ≡ then → (answer : Answer) (left : List ℕ)
-    → answer ≡ wonOf (begin c .args .r) then .answer → left ≡ recorded (c .put-8 .last .0) (begin c .args .at) (wonOf (begin c .args .r) then)
-    → SwapMade (now (begin c .args .image)) (begin c .args .at) (begin c .args .r) (begin c .args .place) (begin c .args .from) (begin c .args .to) (begin c .args .then) answer left
+    → answer ≡ wonOf (begin c .args .r) then .answer → left ≡ recorded (versionAt (now (begin c .args .image))) (c .put-8 .last .0) (begin c .args .at) (wonOf (begin c .args .r) then)
+    → SwapMade (now (begin c .args .image)) (begin c .args .base) (begin c .args .at) (begin c .args .r) (begin c .args .place) (begin c .args .from) (begin c .args .to) (begin c .args .then) answer left
 won-made c then told answer left is laid =
     let a = begin c .args in
     let follows = ap (wonOf (a .r)) (sym told) in
-    let worded = c .put-8 .ensures ∙ ap (λ (w : ℕ). sets (now (a .image)) (wordPlace (a .place)) (bytesOf 8 w)) (c .before .raised .ensures) in
-    made-won _ _ _ _ _ _ _ answer left (same (c .before .before .before .before .before))
+    let worded = c .put-8 .ensures ∙ ap (λ (w : ℕ). sets (now (a .image)) (wordPlace (a .base) (a .place)) (bytesOf 8 w)) (c .before .raised .ensures) in
+    made-won _ _ _ _ _ _ _ _ answer left (same (c .before .before .before .before .before))
     (λ e. c .before .before .before .if2 .left (c .before .before .before .before .counter .ensures ∙ e))
     (is ∙ ap (λ (given : Answered). given .answer) follows)
-    (laid ∙ ap (recorded (c .put-8 .last .0) (a .at)) follows
-    ∙ ap (λ (bytes : List ℕ). recorded bytes (a .at) (wonOf (a .r) (a .then))) worded)
+    (laid ∙ ap (recorded (versionAt (now (a .image))) (c .put-8 .last .0) (a .at)) follows
+    ∙ ap (λ (bytes : List ℕ). recorded (versionAt (now (a .image))) bytes (a .at) (wonOf (a .r) (a .then))) worded)
 
 look-in-requires : tie.Need-look-in-requires
 look-in-requires c κs = search needs
@@ -62,7 +66,7 @@ returns c =
     let began = wrote .before in
     let met = began .before .before .before in
     let start = met .before .before .before in
-    made-lost _ _ _ _ _ _ _ _ (λ e. began .before .before .if1 .taken (met .look-in .ensures ∙ e))
+    made-lost _ _ _ _ _ _ _ _ _ (λ e. began .before .before .if1 .taken (met .look-in .ensures ∙ e))
     (wrote .write-record .ensures ∙ written (now (start .args .image)) (start .args .at) (began .begun-again .ensures))
 
 counter-requires : tie.Need-counter-requires
@@ -73,7 +77,7 @@ same-length-2 c = search needs
 
 returns-2 : tie.Need-returns-2
 returns-2 c =
-    made-stuck _ _ _ _ _ _ _ (same (c .before .before)) (sym (c .before .counter .ensures) ∙ c .if2 .taken)
+    made-stuck _ _ _ _ _ _ _ _ (same (c .before .before)) (sym (c .before .counter .ensures) ∙ c .if2 .taken)
 
 mul-put-8 : tie.Need-mul-put-8
 mul-put-8 c = search needs

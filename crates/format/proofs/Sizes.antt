@@ -1,0 +1,32 @@
+-- What is known of an image whose header is taken.
+use Prim.Native.Nat.{ℕ}
+use mathlib.Core.Path.{_≡_}
+use mathlib.Core.Bool.{true, not, _&&_}
+use mathlib.Core.List.{List}
+use lib.ListN.{length}
+use lib.Dec.{eqb, ltb}
+use borrow.Author.Tests.{eqb-true, not-false}
+use Rattle.logic.proofs.Bools.{both, passed}
+use Rattle.party.specs.Calls.{maxFits}
+use Rattle.step.specs.Call.{tableFits}
+use Rattle.header.specs.Header.{isMarked, versionAt, partiesAt, maxAt, countsFit}
+use Rattle.format.specs.Format.{isKnown, lengthOf, sizesFit, headerRefusal}
+
+pub record Sized (version bytes max parties : ℕ) : Type 0 where
+  pub max-fits : maxFits max ≡ true
+  pub parties-fit : tableFits parties ≡ true
+  pub exact : bytes ≡ lengthOf version max parties
+
+pub sized : (version bytes max parties : ℕ) → sizesFit version bytes max parties ≡ true → Sized version bytes max parties
+sized version bytes max parties e =
+    let last = both (countsFit max parties) (eqb bytes (lengthOf version max parties)) e in
+    let first = both (maxFits max) (tableFits parties) (last .0) in
+    record { max-fits = first .0; parties-fit = first .1; exact = eqb-true bytes (lengthOf version max parties) (last .1) }
+
+pub header-sized : (image : List ℕ) → headerRefusal image ≡ 0 → Sized (versionAt image) (length image) (maxAt image) (partiesAt image)
+unfolding headerRefusal
+header-sized image e =
+    let past1 = passed (ltb (length image) 8) 0 _ e in
+    let past2 = passed (not (isMarked 83 image && isKnown (versionAt image))) 1 _ (past1 .1) in
+    let past3 = passed (not (sizesFit (versionAt image) (length image) (maxAt image) (partiesAt image))) 0 0 (past2 .1) in
+    sized (versionAt image) (length image) (maxAt image) (partiesAt image) (not-false _ (past3 .0))

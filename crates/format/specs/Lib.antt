@@ -1,0 +1,4 @@
+pub mod Format
+pub mod Spelling
+pub mod Fresh
+pub mod Inside
