@@ -1,6 +1,6 @@
--- What start and withdraw keep: a refused call changes nothing, and a valid record stays valid.
+-- What start and withdraw keep: a refused call changes nothing, a valid record stays valid, and their promises leave nothing open.
 use Prim.Native.Nat.{ℕ, _<_}
-use mathlib.Core.Path.{_≡_, refl, sym}
+use mathlib.Core.Path.{_≡_, refl, sym, _∙_}
 use mathlib.Core.Bool.{Bool, true, false, true≢false}
 use lib.Dec.{eqb}
 use borrow.Author.Tests.{lt-ltb, eqb-true}
@@ -16,6 +16,10 @@ use Rattle.party.specs.declared.Record.{Record}
 use Rattle.party.specs.declared.Answered.{Answered}
 use Rattle.party.proofs.Stages.{ValidAt, at-valid}
 use Rattle.party.proofs.Cleared.{startable}
+
+-- Two results that keep one promise are equal.
+pub two-that-keep-it-are-equal : {wanted one two : Answered} → one ≡ wanted → two ≡ wanted → one ≡ two
+two-that-keep-it-are-equal p q = p ∙ sym q
 
 -- 0 is no refusal
 going-on-keeps : (r next : Record) → RefusedKeeps r (goingOn next)

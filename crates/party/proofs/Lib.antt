@@ -3,5 +3,4 @@ pub mod Places
 pub mod Stages
 pub mod Cleared
 pub mod Refusals
-pub mod Gives
 pub mod Kept

@@ -45,12 +45,6 @@ refused number r = record { answer = Refused number; rec = r }
 abbrev pub unless : (number : ℕ) → Record → Answered → Answered
 unless number r done = pick (eqb number 0) done (refused number r)
 
--- What a call that was handed a record by value promises of what it gives: the number, the carried order and the record.
-pub record Gives (wanted got : Answered) : Type 0 where
-  pub number : numberOf (got .answer) ≡ numberOf (wanted .answer)
-  pub carried : carriedOf (got .answer) ≡ carriedOf (wanted .answer)
-  pub rec : got .rec ≡ wanted .rec
-
 -- A refused call gives the record back as it was and carries no order.
 abbrev pub RefusedKeeps : Record → Answered → Type 0
 RefusedKeeps r given = isRefusal (numberOf (given .answer)) ≡ true → (given .rec ≡ r) × (carriedOf (given .answer) ≡ 0)

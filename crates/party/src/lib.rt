@@ -11,7 +11,7 @@ use crate::side::order_fits;
 use crate::valid::is_valid;
 use logic::pick_u32;
 ghost use mathlib.Core.Path.{_≡_};
-ghost use Rattle.party.specs.Answer.{numberOf, carriedOf, Gives};
+ghost use Rattle.party.specs.Answer.{numberOf, carriedOf};
 ghost use Rattle.party.specs.Calls.{maxFits, startOwn, startRefusal, startOf};
 ghost use Rattle.party.specs.Calls.{withdrawOwn, withdrawRefusal, withdrawOf};
 
@@ -105,7 +105,7 @@ fn start_refusal(max: u32, r: Record, operation: u32, order: u32) -> u32
 
 // Start: operation and order into an idle record.
 pub fn start(max: u32, r: Record, operation: u32, order: u32) -> Answered
-    ensures { λ got. ⌜ Gives (startOf max r operation order) got ⌝ }
+    ensures { λ got. ⌜ got ≡ startOf max r operation order ⌝ }
 {
     let number = start_refusal(max, r, operation, order);
     if number != 0 {
@@ -131,7 +131,7 @@ fn withdraw_refusal(max: u32, r: Record) -> u32
 
 // Withdraw: a busy record becomes all zero.
 pub fn withdraw(max: u32, r: Record) -> Answered
-    ensures { λ got. ⌜ Gives (withdrawOf max r) got ⌝ }
+    ensures { λ got. ⌜ got ≡ withdrawOf max r ⌝ }
 {
     let number = withdraw_refusal(max, r);
     if number != 0 {

@@ -1,9 +1,8 @@
 use Rattle.party.specs.Calls.{startOf}
 use native.Mathlib.Omega.{arith}
-use mathlib.Core.Path.{refl, sym, _∙_}
+use mathlib.Core.Path.{sym, _∙_}
 use borrow.Author.Tests.{eq-eqb, ne-eqb}
 use Rattle.party.proofs.Cleared.{startable}
-use Rattle.party.proofs.Gives.{gives}
 use borrow.Author.Needs.{needs}
 use Rattle.party.proofs.start.Statement.{statement}
 use Rattle.party.proofs.start.Tie as tie
@@ -18,7 +17,7 @@ returns : tie.Need-returns
 unfolding startOf
 returns c =
     let asked = c .before in
-    simp (← asked .before .start-refusal .ensures, ne-eqb _ _ (asked .if1 .taken), c .refused-with .ensures) (gives refl)
+    simp (← asked .before .start-refusal .ensures, ne-eqb _ _ (asked .if1 .taken), c .refused-with .ensures)
 
 cast-begun-record : tie.Need-cast-begun-record
 cast-begun-record c =
@@ -37,7 +36,6 @@ unfolding startOf
 returns-2 c =
     let asked = c .before .before in
     simp (← asked .before .start-refusal .ensures, eq-eqb _ _ (asked .if1 .left), c .going-on .ensures, c .before .begun-record .ensures)
-    (gives refl)
 
 pub start-spec : {M : Type 1} → statement M
 start-spec =

@@ -1,7 +1,5 @@
 use Rattle.party.specs.Calls.{withdrawOf}
-use mathlib.Core.Path.{refl}
 use borrow.Author.Tests.{eq-eqb, ne-eqb}
-use Rattle.party.proofs.Gives.{gives}
 use borrow.Author.Needs.{needs}
 use Rattle.party.proofs.withdraw.Statement.{statement}
 use Rattle.party.proofs.withdraw.Tie as tie
@@ -16,7 +14,7 @@ returns : tie.Need-returns
 unfolding withdrawOf
 returns c =
     let asked = c .before in
-    simp (← asked .before .withdraw-refusal .ensures, ne-eqb _ _ (asked .if1 .taken), c .refused-with .ensures) (gives refl)
+    simp (← asked .before .withdraw-refusal .ensures, ne-eqb _ _ (asked .if1 .taken), c .refused-with .ensures)
 
 idle-record-requires : tie.Need-idle-record-requires
 idle-record-requires c κs = search needs
@@ -29,7 +27,6 @@ unfolding withdrawOf
 returns-2 c =
     let asked = c .before .before in
     simp (← asked .before .withdraw-refusal .ensures, eq-eqb _ _ (asked .if1 .left), c .going-on .ensures, c .before .idle-record .ensures)
-    (gives refl)
 
 pub withdraw-spec : {M : Type 1} → statement M
 withdraw-spec =
