@@ -11,10 +11,9 @@ use Rattle.logic.proofs.Bools.{both}
 use Rattle.party.specs.Operation.{isPush}
 use Rattle.party.specs.Record.{again}
 use Rattle.party.specs.Valid.{validOf, placeFits, operationFits}
-use Rattle.party.specs.Answer.{isRefusal, numberOf, carriedOf, Gives, RefusedKeeps}
+use Rattle.party.specs.Answer.{isRefusal, numberOf, carriedOf, RefusedKeeps}
 use Rattle.party.specs.declared.Record.{Record}
 use Rattle.party.specs.declared.Answered.{Answered}
-use Rattle.party.proofs.Gives.{two-that-keep-it-are-equal}
 use Rattle.party.proofs.Kept.{idle-is-valid}
 use Rattle.party.proofs.Stages.{ValidAt, at-valid, stage-1-fits, stage-2-fits, stage-3-fits, stage-4-fits, busy-fits}
 use Rattle.step.specs.Step.{maxOf, stepOf, stepLeaves, StepPromise}
@@ -23,10 +22,10 @@ use Rattle.step.proofs.Accesses.{Gone}
 use Rattle.step.proofs.Went.{GoneOn, Went, went}
 use Rattle.step.proofs.Stepped.{Stepped, stepped}
 
--- Two results that keep the promise have the same number, carried order, record and words.
+-- Two results that keep the promise are equal, and so are the words they leave.
 pub two-steps-that-keep-it-are-equal : {strip : List ℕ} {r : Record} {hint : ℕ} {one two : Answered} {left other : List ℕ}
-    → StepPromise strip r hint one left → StepPromise strip r hint two other → Gives one two × (other ≡ left)
-two-steps-that-keep-it-are-equal p q = (two-that-keep-it-are-equal (p .gives) (q .gives), q .words ∙ sym (p .words))
+    → StepPromise strip r hint one left → StepPromise strip r hint two other → (one ≡ two) × (left ≡ other)
+two-steps-that-keep-it-are-equal p q = (p .gives ∙ sym (q .gives), p .words ∙ sym (q .words))
 
 module _ (strip : List ℕ) (r : Record) (hint : ℕ) where
   pub going-on-is-no-refusal : GoneOn strip r hint → isRefusal (numberOf (stepOf strip r hint .answer)) ≡ false

@@ -11,7 +11,7 @@ use Rattle.word.specs.Swap.{swapOf, wordsAfter}
 use Rattle.party.specs.Operation.{inRange}
 use Rattle.party.specs.Record.{withPlace}
 use Rattle.party.specs.Valid.{isIdle, validOf}
-use Rattle.party.specs.Answer.{unless, Gives}
+use Rattle.party.specs.Answer.{unless}
 use Rattle.party.specs.declared.Record.{Record}
 use Rattle.party.specs.declared.Answered.{Answered}
 use Rattle.step.specs.Stages.{accessOf}
@@ -58,7 +58,7 @@ unfoldable pub stepLeaves : List ℕ → Record → (hint : ℕ) → List ℕ
 stepLeaves strip r hint =
     pick (eqb (stepRefusal (length strip) r hint) 0) (written strip (accessOf (aimed r hint))) strip
 
--- What step promises: the number, the carried order, the record and every word of the strip it was lent.
+-- What step promises: the answer, the record and every word of the strip it was lent.
 pub record StepPromise (strip : List ℕ) (r : Record) (hint : ℕ) (got : Answered) (left : List ℕ) : Type 0 where
-  pub gives : Gives (stepOf strip r hint) got
+  pub gives : got ≡ stepOf strip r hint
   pub words : left ≡ stepLeaves strip r hint

@@ -9,7 +9,6 @@ use Rattle.step.specs.declared.Access.{Access}
 use denote.Ref.{now}
 use lib.ListN.{length}
 use Rattle.party.specs.Answer.{refused}
-use Rattle.party.proofs.Gives.{gives}
 use Rattle.step.proofs.Cleared.{Steppable, steppable, strip-within, placeOf, place-inside, hint-fits-k}
 use Rattle.step.proofs.Accesses.{when-refused, when-looks, when-swaps}
 use borrow.Author.Needs.{needs}
@@ -52,7 +51,7 @@ returns c =
     let number = asked .before .step-refusal .ensures in
     let step = when-refused _ _ _ (λ e. asked .if1 .taken (number ∙ e)) in
     record {
-      gives = gives (c .refused-with .ensures ∙ ap (λ (n : ℕ). refused n (asked .before .before .before .args .r)) number ∙ sym (step .answered));
+      gives = c .refused-with .ensures ∙ ap (λ (n : ℕ). refused n (asked .before .before .before .args .r)) number ∙ sym (step .answered);
       words = sym (step .words);
     }
 
@@ -105,7 +104,7 @@ returns-2 c =
     let at = found .before .before in
     let access = sym (at .access .ensures) ∙ found .place .given .1 in
     let step = when-looks _ _ _ _ (passes (at .before .before)) (at .before .aim .ensures) _ _ _ access (c .before .look .ensures) in
-    record { gives = gives (c .looked .ensures ∙ sym (step .answered)); words = sym (step .words) }
+    record { gives = c .looked .ensures ∙ sym (step .answered); words = sym (step .words) }
 
 same-length-2 : tie.Need-same-length-2
 same-length-2 c = search needs
@@ -117,7 +116,7 @@ returns-3 c =
     let at = found .before .before in
     let access = sym (at .access .ensures) ∙ found .place2 .given .1 in
     let step = when-swaps _ _ _ _ (passes (at .before .before)) (at .before .aim .ensures) _ _ _ _ _ _ access (swap .swap .ensures) in
-    record { gives = gives (c .swapped .ensures ∙ sym (step .answered)); words = sym (step .words) }
+    record { gives = c .swapped .ensures ∙ sym (step .answered); words = sym (step .words) }
 
 pub step-spec : {M : Type 1} → statement M
 step-spec =
