@@ -1,23 +1,20 @@
 -- How a search goes on and where it stops, for both sides.
 use Prim.Native.Nat.{ℕ, suc, _+_, _-_}
-use mathlib.Core.Path.{_≡_, ap, _∙_}
+use mathlib.Core.Path.{_≡_, _∙_}
 use mathlib.Core.Bool.{Bool, true, false}
 use mathlib.Core.List.{List}
 use lib.ListN.{length}
 use native.Mathlib.Omega.{arith}
 use Rattle.step.specs.Step.{stripFits, maxOf}
 use Rattle.step.proofs.Cleared.{strip-within}
-use Rattle.strip.specs.Find.{isEnd, candidate, firstFrom, findOf, foundNumber, foundPlace, FindPromise}
+use Rattle.strip.specs.Find.{isEnd, candidate, firstFrom, findOf}
 use Rattle.strip.specs.declared.Found.{Found}
 use Rattle.strip.specs.declared.Found.the-variants.{Place, NotFound}
 
-finds : {operation : ℕ} {strip : List ℕ} {got : Found} → got ≡ findOf operation strip → FindPromise operation strip got
-finds e = record { number = ap foundNumber e; place = ap foundPlace e }
-
 module _ (operation : ℕ) (strip : List ℕ) where
-  pub find-refuses : stripFits (length strip) ≡ false → FindPromise operation strip (NotFound 1)
+  pub find-refuses : stripFits (length strip) ≡ false → NotFound 1 ≡ findOf operation strip
   unfolding findOf
-  find-refuses unfit = finds (simp unfit)
+  find-refuses unfit = simp unfit
 
   -- the search stands at candidate i with so many left, and what it finds among them is what find answers
   abbrev pub Searching : (i left : ℕ) → Type 0
@@ -33,14 +30,14 @@ module _ (operation : ℕ) (strip : List ℕ) where
 
   module _ (i left : ℕ) (so-far : Searching i left) where
     -- with no candidate left the search ends as refusal 10
-    pub find-ends : (got : Found) → got ≡ NotFound 10 → left ≡ 0 → FindPromise operation strip got
+    pub find-ends : (got : Found) → got ≡ NotFound 10 → left ≡ 0 → got ≡ findOf operation strip
     unfolding firstFrom
-    find-ends got is none = finds (is ∙ rw none at so-far)
+    find-ends got is none = is ∙ rw none at so-far
 
     module _ (k less : ℕ) (at : candidate operation (maxOf (length strip)) i ≡ k) (more : left ≡ suc less) where
-      pub find-stops : (end : Bool) → end ≡ isEnd operation strip k → end ≡ true → FindPromise operation strip (Place k)
+      pub find-stops : (end : Bool) → end ≡ isEnd operation strip k → end ≡ true → Place k ≡ findOf operation strip
       unfolding firstFrom
-      find-stops end is here = finds (rw (more, at, ← is, here) at so-far)
+      find-stops end is here = rw (more, at, ← is, here) at so-far
 
       pub find-goes-on : (j : ℕ) → i + 1 ≡ j → (end : Bool) → end ≡ isEnd operation strip k → end ≡ false → Searching j less
       unfolding firstFrom

@@ -1,16 +1,17 @@
 -- A fresh strip, word by word.
 use Prim.Native.Nat.{ℕ, _+_, _-_, _≤_, _<_}
-use mathlib.Core.Path.{_≡_, refl, _∙_}
+use mathlib.Core.Path.{_≡_, refl, sym, _∙_}
 use mathlib.Core.Bool.{Bool, true, false, not}
 use mathlib.Core.List.{List}
 use lib.ListN.{length, getD, replicate, length-append, length-replicate, getD-replicate, List·getD-append}
-use lib.Dec.{leb}
-use borrow.Author.Tests.{leb-true, leb-false, not-false, eq-eqb, ne-eqb}
+use lib.Dec.{eqb, leb}
+use borrow.Author.Tests.{leb-true, leb-false, not-false, eqb-true, eq-eqb, ne-eqb}
 use native.Mathlib.Omega.{arith}
 use Rattle.logic.specs.Pick.{pick}
 use Rattle.logic.proofs.Bools.{passed}
 use Rattle.step.specs.Step.{stripFits, maxOf}
-use Rattle.strip.specs.Lay.{freshStrip, layRefusal, layLeaves}
+use Rattle.strip.specs.Lay.{freshStrip, layRefusal, layLeaves, laidOf, laidNumber}
+use Rattle.strip.specs.declared.Laid.the-variants.{Fresh, NotLaid}
 use Rattle.strip.proofs.Lists.{getD-past}
 
 -- What is known of a lay that no check refused.
@@ -27,6 +28,18 @@ layable words divide e =
       fits = not-false (stripFits words) (past1 .0);
       inside = leb-true divide (maxOf words) (not-false (leb divide (maxOf words)) (past8 .0));
     }
+
+-- The number of lay's answer is that of its refusal, 0 for none.
+pub number-of-laid : (words divide : ℕ) → laidNumber (laidOf words divide) ≡ layRefusal words divide
+unfolding laidOf
+number-of-laid words divide = go (eqb number 0) refl
+  where
+    number : ℕ
+    number = layRefusal words divide
+
+    go : (none : Bool) → eqb number 0 ≡ none → laidNumber (pick none Fresh (NotLaid number)) ≡ number
+    go true e = sym (eqb-true number 0 e)
+    go false e = refl
 
 -- A refused lay leaves the strip, a lay that passes leaves a fresh one.
 module _ (strip : List ℕ) (divide : ℕ) where

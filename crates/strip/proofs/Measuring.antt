@@ -1,24 +1,14 @@
 -- What measure answers, by the three runs that it counts.
 use Prim.Native.Nat.{ℕ, _+_, _-_}
-use mathlib.Core.Path.{_≡_, ap}
+use mathlib.Core.Path.{_≡_}
 use mathlib.Core.Bool.{true, false}
 use mathlib.Core.List.{List}
 use lib.ListN.{length, drop}
 use Rattle.step.specs.Step.{stripFits}
-use Rattle.strip.specs.Measure.{runOf, isWithin, lefts, orders, rights, isShaped, measureOf}
-use Rattle.strip.specs.Measure.{measuredNumber, measuredLeft, measuredOrders, measuredRight, MeasurePromise}
-use Rattle.strip.specs.declared.Measured.{Measured}
+use Rattle.strip.specs.Measure.{runOf, lefts, orders, rights, isShaped, measureOf}
+use Rattle.strip.specs.Inside.{isWithin}
 use Rattle.strip.specs.declared.Measured.the-variants.{Shape, NotMeasured}
 use Rattle.strip.proofs.Running.{within-left, within-orders, within-right}
-
-pub measures : {strip : List ℕ} {got : Measured} → got ≡ measureOf strip → MeasurePromise strip got
-measures e =
-    record {
-      number = ap measuredNumber e;
-      left = ap measuredLeft e;
-      orders-held = ap measuredOrders e;
-      right = ap measuredRight e;
-    }
 
 pub record Counted (strip : List ℕ) (l n r : ℕ) : Type 0 where
   pub of-left : lefts strip ≡ l

@@ -11,7 +11,8 @@ use native.Mathlib.Numerals.{add-one}
 use native.Mathlib.Omega.{arith}
 use Rattle.logic.specs.Pick.{pick}
 use Rattle.word.specs.Word.{valueOf}
-use Rattle.strip.specs.Measure.{runOf, isLN, isOrder, isRN, isWithin}
+use Rattle.strip.specs.Measure.{runOf, isLN, isOrder, isRN}
+use Rattle.strip.specs.Inside.{isWithin}
 
 module _ (test : ℕ → Bool) where
   module _ (strip : List ℕ) (i : ℕ) where

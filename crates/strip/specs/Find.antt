@@ -1,6 +1,5 @@
 -- Find: the first place of a side, from its far end on, that holds own null beside a neighbour that does not.
 use Prim.Native.Nat.{ℕ, zero, suc, _+_, _-_}
-use mathlib.Core.Path.{_≡_}
 use mathlib.Core.Bool.{Bool, not, _&&_}
 use mathlib.Core.List.{List}
 use lib.ListN.{length}
@@ -32,17 +31,3 @@ findOf operation strip =
     pick (stripFits (length strip))
     (firstFrom (isEnd operation strip) (candidate operation (maxOf (length strip))) 0 (maxOf (length strip) + 1))
     (NotFound 1)
-
-abbrev pub foundNumber : Found → ℕ
-foundNumber (Place k) = 0
-foundNumber (NotFound number) = number
-
--- a refusal gives 0 for the place
-abbrev pub foundPlace : Found → ℕ
-foundPlace (Place k) = k
-foundPlace (NotFound number) = 0
-
--- What find promises: the number and the place. The strip is lent to be read alone.
-pub record FindPromise (operation : ℕ) (strip : List ℕ) (got : Found) : Type 0 where
-  pub number : foundNumber got ≡ foundNumber (findOf operation strip)
-  pub place : foundPlace got ≡ foundPlace (findOf operation strip)

@@ -28,11 +28,14 @@ unfoldable pub layLeaves : (strip : List ℕ) (divide : ℕ) → List ℕ
 layLeaves strip divide =
     pick (eqb (layRefusal (length strip) divide) 0) (freshStrip (maxOf (length strip)) divide) strip
 
+unfoldable pub laidOf : (words divide : ℕ) → Laid
+laidOf words divide = pick (eqb (layRefusal words divide) 0) Fresh (NotLaid (layRefusal words divide))
+
 abbrev pub laidNumber : Laid → ℕ
 laidNumber Fresh = 0
 laidNumber (NotLaid number) = number
 
--- What lay promises: the number and every word of the strip it was lent.
+-- What lay promises: the answer and every word of the strip it was lent.
 pub record LayPromise (strip : List ℕ) (divide : ℕ) (got : Laid) (left : List ℕ) : Type 0 where
-  pub number : laidNumber got ≡ layRefusal (length strip) divide
+  pub gives : got ≡ laidOf (length strip) divide
   pub words : left ≡ layLeaves strip divide

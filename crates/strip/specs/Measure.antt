@@ -1,6 +1,5 @@
 -- Measure: L, the number of orders, and R of a shaped strip.
 use Prim.Native.Nat.{ℕ, suc, _+_, _-_}
-use mathlib.Core.Path.{_≡_}
 use mathlib.Core.Bool.{Bool, not, _&&_}
 use mathlib.Core.List.{List, [], _∷_}
 use lib.ListN.{length, drop}
@@ -24,10 +23,6 @@ isOrder word = leb 3 (valueOf word)
 
 abbrev pub isRN : ℕ → Bool
 isRN word = eqb (valueOf word) RN
-
--- a value from low to high: the code counts each of the three runs so
-abbrev pub isWithin : (low high : ℕ) → ℕ → Bool
-isWithin low high word = leb low (valueOf word) && leb (valueOf word) high
 
 -- the run of LN at the front, of orders after it, and of RN after those
 abbrev pub lefts : List ℕ → ℕ
@@ -66,10 +61,3 @@ measuredOrders (NotMeasured number) = 0
 abbrev pub measuredRight : Measured → ℕ
 measuredRight (Shape left held right) = right
 measuredRight (NotMeasured number) = 0
-
--- What measure promises: the number and the three measured ones. The strip is lent to be read alone.
-pub record MeasurePromise (strip : List ℕ) (got : Measured) : Type 0 where
-  pub number : measuredNumber got ≡ measuredNumber (measureOf strip)
-  pub left : measuredLeft got ≡ measuredLeft (measureOf strip)
-  pub orders-held : measuredOrders got ≡ measuredOrders (measureOf strip)
-  pub right : measuredRight got ≡ measuredRight (measureOf strip)

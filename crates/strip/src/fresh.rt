@@ -1,7 +1,7 @@
 // A fresh strip, word by word.
 use logic::pick_u32;
 ghost use mathlib.Core.Path.{_≡_};
-ghost use Prim.Native.Nat.{_-_, _+_, _≤_};
+ghost use Prim.Native.Nat.{_+_, _≤_};
 ghost use lib.ListN.{length};
 ghost use Rattle.step.specs.Step.{maxOf};
 ghost use Rattle.strip.specs.Lay.{freshStrip};

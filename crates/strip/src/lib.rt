@@ -11,8 +11,8 @@ use crate::runs::run;
 use step::strip_fits;
 ghost use mathlib.Core.Path.{_≡_};
 ghost use Rattle.strip.specs.Lay.{LayPromise};
-ghost use Rattle.strip.specs.Measure.{MeasurePromise};
-ghost use Rattle.strip.specs.Find.{FindPromise};
+ghost use Rattle.strip.specs.Measure.{measureOf};
+ghost use Rattle.strip.specs.Find.{findOf};
 
 // What lay answers: the strip is fresh, or it was not laid, with the number of the refusal.
 pub enum Laid {
@@ -46,7 +46,7 @@ pub fn lay(strip: &mut [u64], divide: u32) -> Laid
 
 // Measure: the runs of LN, orders and RN that a shaped strip is made of.
 pub fn measure(strip: &[u64]) -> Measured
-    ensures { λ got. ⌜ MeasurePromise (now (strip .entry)) got ⌝ }
+    ensures { λ got. ⌜ got ≡ measureOf (now (strip .entry)) ⌝ }
 {
     if !strip_fits(strip.len()) {
         return Measured::NotMeasured(1);
@@ -62,7 +62,7 @@ pub fn measure(strip: &[u64]) -> Measured
 
 // Find right: the first place, from 1 up, that holds RN after a neighbour that is not RN.
 pub fn find_right(strip: &[u64]) -> Found
-    ensures { λ got. ⌜ FindPromise 0 (now (strip .entry)) got ⌝ }
+    ensures { λ got. ⌜ got ≡ findOf 0 (now (strip .entry)) ⌝ }
 {
     if !strip_fits(strip.len()) {
         return Found::NotFound(1);
@@ -81,7 +81,7 @@ pub fn find_right(strip: &[u64]) -> Found
 
 // Find left: the first place met, from MAX down, that holds LN before a neighbour that is not LN.
 pub fn find_left(strip: &[u64]) -> Found
-    ensures { λ got. ⌜ FindPromise 2 (now (strip .entry)) got ⌝ }
+    ensures { λ got. ⌜ got ≡ findOf 2 (now (strip .entry)) ⌝ }
 {
     if !strip_fits(strip.len()) {
         return Found::NotFound(1);

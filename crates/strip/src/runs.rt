@@ -4,7 +4,8 @@ use word::value;
 ghost use mathlib.Core.Path.{_≡_};
 ghost use Prim.Native.Nat.{_+_, _≤_};
 ghost use lib.ListN.{length, drop};
-ghost use Rattle.strip.specs.Measure.{runOf, isWithin};
+ghost use Rattle.strip.specs.Measure.{runOf};
+ghost use Rattle.strip.specs.Inside.{isWithin};
 
 fn is_within(word: u64, low: u32, high: u32) -> bool
     ensures { λ t. ⌜ t ≡ isWithin low high word ⌝ }

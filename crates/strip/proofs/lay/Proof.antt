@@ -1,8 +1,10 @@
 use denote.Ref.{now}
 use mathlib.Core.Path.{sym, _∙_}
+use borrow.Author.Tests.{eq-eqb, ne-eqb}
 use native.Mathlib.Omega.{arith}
 use lib.ListN.{length}
 use Rattle.step.proofs.Cleared.{strip-within}
+use Rattle.strip.specs.Lay.{laidOf}
 use Rattle.strip.proofs.Laying.{layable, refused-leaves, laid-leaves}
 use borrow.Author.Needs.{needs}
 use Rattle.strip.proofs.lay.Statement.{statement}
@@ -12,9 +14,13 @@ lay-refusal-requires : tie.Need-lay-refusal-requires
 lay-refusal-requires c κs = search needs
 
 returns : tie.Need-returns
+unfolding laidOf
 returns c =
     let number = c .before .lay-refusal .ensures in
-    record { number = number; words = sym (refused-leaves _ _ (λ e. c .if1 .taken (number ∙ e))) }
+    record {
+      gives = simp (← number, ne-eqb _ _ (c .if1 .taken));
+      words = sym (refused-leaves _ _ (λ e. c .if1 .taken (number ∙ e)));
+    }
 
 fill-requires : tie.Need-fill-requires
 fill-requires c κs =
@@ -27,11 +33,12 @@ same-length : tie.Need-same-length
 same-length c = search needs
 
 returns-2 : tie.Need-returns-2
+unfolding laidOf
 returns-2 c =
     let fill = c .before .before in
     let asked = fill .before .before .before in
     let passes = sym (asked .lay-refusal .ensures) ∙ fill .before .before .if1 .left in
-    record { number = sym passes; words = fill .fill .ensures ∙ sym (laid-leaves _ _ passes) }
+    record { gives = simp (eq-eqb _ _ passes); words = fill .fill .ensures ∙ sym (laid-leaves _ _ passes) }
 
 pub lay-spec : {M : Type 1} → statement M
 lay-spec = tie.close (tie.spec lay-refusal-requires returns fill-requires same-length returns-2)

@@ -11,7 +11,7 @@ use Rattle.logic.proofs.Bools.{both}
 use Rattle.step.specs.Step.{stripFits}
 use Rattle.step.proofs.Cleared.{strip-within}
 use Rattle.strip.specs.Measure.{isShaped}
-use Rattle.strip.proofs.Measuring.{measures, Counted, counted, measure-refuses, measure-shaped, measure-unshaped}
+use Rattle.strip.proofs.Measuring.{Counted, counted, measure-refuses, measure-shaped, measure-unshaped}
 use borrow.Author.Needs.{needs}
 use Rattle.strip.proofs.measure.Statement.{statement}
 use Rattle.strip.proofs.measure.Tie as tie
@@ -47,7 +47,7 @@ strip-fits-requires : tie.Need-strip-fits-requires
 strip-fits-requires c κs = search needs
 
 returns : tie.Need-returns
-returns c = measures (sym (measure-refuses _ (sym (c .before .strip-fits .ensures) ∙ not-true _ (c .if1 .taken))))
+returns c = sym (measure-refuses _ (sym (c .before .strip-fits .ensures) ∙ not-true _ (c .if1 .taken)))
 
 run-requires : tie.Need-run-requires
 run-requires c κs = search needs
@@ -85,10 +85,10 @@ cast-t17 c = omega (arith, strip-within (length (strip-of (c .before))) (fits (c
 returns-2 : tie.Need-returns-2
 returns-2 c =
     let k = counts (c .before) in
-    measures (sym (measure-shaped _ (fits (c .before)) (test-is (c .before) ∙ c .if2 .taken) ∙ rw (k .of-right, k .of-orders, k .of-left)))
+    sym (measure-shaped _ (fits (c .before)) (test-is (c .before) ∙ c .if2 .taken) ∙ rw (k .of-right, k .of-orders, k .of-left))
 
 returns-3 : tie.Need-returns-3
-returns-3 c = measures (sym (measure-unshaped _ (fits (c .before)) (test-is (c .before) ∙ c .if2 .left)))
+returns-3 c = sym (measure-unshaped _ (fits (c .before)) (test-is (c .before) ∙ c .if2 .left))
 
 pub measure-spec : {M : Type 1} → statement M
 measure-spec =

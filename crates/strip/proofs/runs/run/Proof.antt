@@ -5,7 +5,8 @@ use mathlib.Core.Path.{_≡_}
 use borrow.Author.Tests.{not-true, not-false}
 use native.Mathlib.Omega.{arith}
 use lib.ListN.{length, drop, getD}
-use Rattle.strip.specs.Measure.{runOf, isWithin}
+use Rattle.strip.specs.Measure.{runOf}
+use Rattle.strip.specs.Inside.{isWithin}
 use Rattle.strip.proofs.Running.{run-goes-on, run-stops, run-ends}
 use borrow.Author.Needs.{needs}
 use Rattle.strip.proofs.runs.run.Statement.{statement}
