@@ -8,19 +8,14 @@ use lib.Dec.{leb, ltb}
 use borrow.Author.Tests.{leb-true, leb-false, le-leb, lt-leb}
 use native.Mathlib.Omega.{arith}
 use Rattle.party.specs.Record.{idle}
-use Rattle.party.specs.Answer.{Gives}
 use Rattle.party.specs.Calls.{maxFits, startOf, startRefusal, withdrawOf, withdrawRefusal}
 use Rattle.party.specs.declared.Record.{Record}
-use Rattle.party.specs.declared.Answered.{Answered}
 use Rattle.step.specs.Step.{stripFits, maxOf, stepOf, stepLeaves, stepRefusal}
 use Rattle.step.specs.Call.{Call, partyOf, gate, ownOf, ownLeaves, recordOf, callOf}
 use Rattle.step.proofs.Called.{past-gate, call-through, call-away}
-use Rattle.table.specs.Said.{toldOf}
 use Rattle.table.specs.Lent.{Does, DoesAtMax, alone, blank}
+use Rattle.table.specs.Inside.{toldOf}
 use Rattle.table.specs.declared.Told.{Told}
-
-pub told-by : {wanted got : Answered} → Gives wanted got → toldOf got ≡ toldOf wanted
-told-by gives = simp (gives .number, gives .carried, gives .rec)
 
 module _ (strip : List ℕ) (table : List Record) (call : Call) where
   abbrev number : ℕ

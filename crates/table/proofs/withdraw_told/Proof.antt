@@ -1,5 +1,5 @@
-use mathlib.Core.Path.{_∙_}
-use Rattle.table.proofs.Promised.{told-by}
+use mathlib.Core.Path.{_∙_, ap}
+use Rattle.table.specs.Inside.{toldOf}
 use borrow.Author.Needs.{needs}
 use Rattle.table.proofs.withdraw_told.Statement.{statement}
 use Rattle.table.proofs.withdraw_told.Tie as tie
@@ -11,7 +11,7 @@ tell-requires : tie.Need-tell-requires
 tell-requires c κs = search needs
 
 returns : tie.Need-returns
-returns c = c .tell .ensures ∙ told-by (c .before .withdraw .ensures)
+returns c = c .tell .ensures ∙ ap toldOf (c .before .withdraw .ensures)
 
 pub withdraw-told-spec : {M : Type 1} → statement M
 withdraw-told-spec = tie.close (tie.spec withdraw-requires tell-requires returns)
