@@ -17,11 +17,11 @@ use Rattle.strip.proofs.Values.{fresh-stands-for}
 
 -- Two results that keep a promise are equal, and so are the words that two lays leave.
 pub two-lays-that-keep-it-are-equal : {strip : List ℕ} {divide : ℕ} {one two : Laid} {left other : List ℕ}
-    → LayPromise strip divide one left → LayPromise strip divide two other
-    → (one ≡ two) × (left ≡ other)
+    → LayPromise strip divide one left → LayPromise strip divide two other → (one ≡ two) × (left ≡ other)
 two-lays-that-keep-it-are-equal p q = (p .gives ∙ sym (q .gives), p .words ∙ sym (q .words))
 
-pub two-measures-that-keep-it-are-equal : (strip : List ℕ) {one two : Measured} → one ≡ measureOf strip → two ≡ measureOf strip → one ≡ two
+pub two-measures-that-keep-it-are-equal : (strip : List ℕ) {one two : Measured}
+    → one ≡ measureOf strip → two ≡ measureOf strip → one ≡ two
 two-measures-that-keep-it-are-equal strip p q = p ∙ sym q
 
 -- for find right and find left alike
