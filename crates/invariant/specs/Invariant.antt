@@ -1,4 +1,5 @@
--- What every reachable state keeps: of each record on its strip, and of every two.
+-- No public promise speaks of this file, nor does demand 3's theorem: the proof goes by it. What every reachable state keeps, of each
+-- record on its strip and of every two.
 use Prim.Native.Nat.{ℕ, _≤_, _<_}
 use mathlib.Core.Path.{_≡_}
 use mathlib.Core.Bool.{true, false}

@@ -1,5 +1,5 @@
--- What a record at stage 2 or 3 remembers of the plain strip at its last look, which FULL and EMPTY will name, and what a record's
--- operation gives on a plain strip.
+-- No public promise speaks of this file, nor does demand 3's theorem: the proof goes by it. What a record at stage 2 or 3 remembers
+-- of the plain strip at its last look, which FULL and EMPTY will name, and what a record's operation gives on a plain strip.
 use Prim.Native.Nat.{ℕ}
 use mathlib.Core.Path.{_≡_}
 use mathlib.Core.Bool.{true}
