@@ -1,4 +1,4 @@
--- No public promise and no theorem rests on this file: it is what a private function says of itself.
+-- No public promise speaks of this file: it is what a private function says of itself.
 use Prim.Native.Nat.{ℕ}
 use mathlib.Core.Bool.{Bool, _&&_}
 use lib.Dec.{leb}

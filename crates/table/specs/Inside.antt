@@ -1,4 +1,4 @@
--- No public promise and no theorem rests on this file: it is what private functions say of themselves.
+-- No public promise speaks of this file: it is what private functions say of themselves.
 use Rattle.party.specs.declared.Answered.{Answered}
 use Rattle.table.specs.Said.{saidOf}
 use Rattle.table.specs.declared.Told.{Told}
