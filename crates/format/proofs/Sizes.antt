@@ -8,7 +8,7 @@ use lib.Dec.{eqb, ltb}
 use borrow.Author.Tests.{eqb-true, not-false}
 use Rattle.logic.proofs.Bools.{both, passed}
 use Rattle.party.specs.Calls.{maxFits}
-use Rattle.step.specs.Call.{tableFits}
+use Rattle.call.specs.Call.{tableFits}
 use Rattle.header.specs.Header.{isMarked, versionAt, partiesAt, maxAt, countsFit}
 use Rattle.format.specs.Format.{isKnown, lengthOf, sizesFit, headerRefusal}
 

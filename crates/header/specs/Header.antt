@@ -7,7 +7,7 @@ use lib.ListN.{getD}
 use lib.Dec.{eqb}
 use Rattle.little.specs.Bytes.{numberAt}
 use Rattle.party.specs.Calls.{maxFits}
-use Rattle.step.specs.Call.{tableFits}
+use Rattle.call.specs.Call.{tableFits}
 
 abbrev pub isMarked : (letter : ℕ) → List ℕ → Bool
 isMarked letter bytes = eqb (getD bytes 0 0) 80 && eqb (getD bytes 1 0) 68 && eqb (getD bytes 2 0) letter

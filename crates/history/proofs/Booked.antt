@@ -11,8 +11,8 @@ use Rattle.logic.specs.Pick.{pick}
 use Rattle.logic.proofs.Bools.{both, whichever}
 use Rattle.party.specs.Record.{idle}
 use Rattle.party.specs.declared.Record.{Record}
-use Rattle.step.specs.Call.{Call, partyOf}
-use Rattle.step.proofs.Calls.{table-stays-as-long}
+use Rattle.call.specs.Call.{Call, partyOf}
+use Rattle.call.proofs.Calls.{table-stays-as-long}
 use Rattle.history.specs.Run.{State, begin, goesOn, looked, lineOf, leaves, numberIn}
 use Rattle.history.specs.Finished.{Asked, nothingYet, askedAfter}
 use Rattle.logic.proofs.Lists.{all-the-same}

@@ -13,7 +13,7 @@ use native.Mathlib.Omega.{arith}
 use Rattle.logic.specs.Pick.{pick}
 use Rattle.logic.specs.Every.{Every}
 use Rattle.party.specs.Record.{idle}
-use Rattle.step.specs.Call.{Call, partyOf}
+use Rattle.call.specs.Call.{Call, partyOf}
 use Rattle.history.specs.Run.{State, lineOf, leaves, numberIn}
 use Rattle.history.specs.Finished.{Asked, Finished, nothingYet, isResult, finish, finishedAt}
 use Rattle.history.specs.Explained.{Between, none}

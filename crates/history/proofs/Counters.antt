@@ -8,7 +8,7 @@ use native.Mathlib.Omega.{arith}
 use Rattle.logic.specs.Every.{Every}
 use Rattle.word.specs.Word.{IsWord, counterOf}
 use Rattle.step.specs.Step.{stripFits}
-use Rattle.step.specs.Call.{Call, Fitting}
+use Rattle.call.specs.Call.{Call, Fitting}
 use Rattle.invariant.specs.Invariant.{Sane}
 use Rattle.invariant.proofs.Kept.{sane-kept}
 use Rattle.invariant.proofs.Writes.{strip-stays-as-long, no-counter-falls, no-counter-comes-round}

@@ -4,7 +4,7 @@ use mathlib.Core.Path.{_≡_, sym, _∙_, ap}
 use mathlib.Core.List.{List, [], _∷_, _++_, append-assoc, append-nil}
 use native.Mathlib.Nat.{add-zero, add-suc, suc-add, zero-add}
 use lib.ListN.{length, getD, replicate}
-use Rattle.step.specs.Call.{Call}
+use Rattle.call.specs.Call.{Call}
 use Rattle.placing.specs.Placing.{gathered}
 use Rattle.history.specs.Run.{State, lineOf, leaves, linesFrom, endFrom, begin, noCall}
 use Rattle.history.specs.Finished.{Asked, Finished, nothingYet, askedAfter, finishedAt, finishedFrom, finishedOf}

@@ -11,7 +11,7 @@ use native.Mathlib.Omega.{arith}
 use Rattle.logic.specs.Every.{Every}
 use Rattle.word.specs.Word.{IsWord}
 use Rattle.step.specs.Step.{stripFits}
-use Rattle.step.specs.Call.{Call, Fitting}
+use Rattle.call.specs.Call.{Call, Fitting}
 use Rattle.plain.specs.Plain.{Plain, freshPlain}
 use Rattle.strip.specs.Shape.{StandsFor, Shaped}
 use Rattle.strip.specs.Lay.{freshStrip}

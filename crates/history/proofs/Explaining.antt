@@ -12,7 +12,7 @@ use Rattle.logic.specs.Every.{Every}
 use Rattle.logic.proofs.Bools.{both}
 use Rattle.party.specs.Record.{idle}
 use Rattle.step.specs.Step.{stripFits}
-use Rattle.step.specs.Call.{Call, Fitting}
+use Rattle.call.specs.Call.{Call, Fitting}
 use Rattle.plain.specs.Plain.{Plain}
 use Rattle.strip.specs.Shape.{StandsFor}
 use Rattle.placing.specs.Placing.{gathered, Adds}

@@ -9,8 +9,8 @@ use Rattle.logic.specs.Pick.{pick}
 use Rattle.logic.proofs.Bools.{both}
 use Rattle.party.specs.Record.{idle}
 use Rattle.step.specs.Step.{stripFits}
-use Rattle.step.specs.Call.{Call, Fitting, partyOf, callOf}
-use Rattle.step.proofs.Calls.{table-stays-as-long}
+use Rattle.call.specs.Call.{Call, Fitting, partyOf, callOf}
+use Rattle.call.proofs.Calls.{table-stays-as-long}
 use Rattle.plain.specs.Plain.{Plain}
 use Rattle.strip.specs.Shape.{StandsFor}
 use Rattle.invariant.specs.Invariant.{Sane}

@@ -13,7 +13,7 @@ use Rattle.logic.proofs.Bools.{both}
 use Rattle.party.specs.Record.{idle}
 use Rattle.party.specs.Answer.{isRefusal}
 use Rattle.party.specs.declared.Record.{Record}
-use Rattle.step.specs.Call.{Call, partyOf}
+use Rattle.call.specs.Call.{Call, partyOf}
 use Rattle.history.specs.Run.{State, begin, leaves, lineOf, looked, numberIn}
 use Rattle.history.proofs.Parties.{looksNow, look-is-a-step, look-after}
 use Rattle.history.proofs.Since.{Since, Early, since}

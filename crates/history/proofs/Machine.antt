@@ -8,7 +8,7 @@ use mathlib.Core.List.{List}
 use lib.ListN.{length}
 use Rattle.logic.specs.Pick.{pick}
 use Rattle.step.specs.Step.{stripFits}
-use Rattle.step.specs.Call.{Call, Fitting, partyOf, recordOf, callOf}
+use Rattle.call.specs.Call.{Call, Fitting, partyOf, recordOf, callOf}
 use Rattle.plain.specs.Plain.{Plain}
 use Rattle.strip.specs.Shape.{StandsFor}
 use Rattle.invariant.specs.Remembered.{RecordYields}

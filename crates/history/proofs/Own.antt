@@ -11,9 +11,9 @@ use Rattle.party.specs.Record.{idle, begun}
 use Rattle.party.specs.Answer.{isRefusal, numberOf}
 use Rattle.party.specs.declared.Record.{Record}
 use Rattle.party.specs.declared.Answer.{Answer}
-use Rattle.step.specs.Call.{Call, partyOf, recordOf}
+use Rattle.call.specs.Call.{Call, partyOf, recordOf}
 use Rattle.step.proofs.Stepped.{Stepped, stepped}
-use Rattle.step.proofs.Called.{Leaves, Called, called}
+use Rattle.call.proofs.Called.{Leaves, Called, called}
 use Rattle.history.specs.Run.{State, isStep, leaves, numberIn}
 
 module _ (s : State) (entry : ℕ) (call : Call) where

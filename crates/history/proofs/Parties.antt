@@ -15,8 +15,8 @@ use Rattle.party.specs.Record.{idle, begun}
 use Rattle.party.specs.Answer.{isRefusal}
 use Rattle.party.specs.declared.Record.{Record}
 use Rattle.party.proofs.Refusals.{refusal-is-not-0}
-use Rattle.step.specs.Call.{Call, partyOf}
-use Rattle.step.proofs.Calls.{other-records-stand}
+use Rattle.call.specs.Call.{Call, partyOf}
+use Rattle.call.proofs.Calls.{other-records-stand}
 use Rattle.step.proofs.Stepped.{Stepped}
 use Rattle.history.specs.Run.{State, goesOn, isStep, looked, lineOf, leaves, numberIn}
 use Rattle.history.specs.Finished.{Asked, nothingYet, askedAfter}

@@ -11,7 +11,7 @@ use Rattle.logic.proofs.Bools.{both}
 use Rattle.party.specs.Record.{idle}
 use Rattle.party.specs.Answer.{isRefusal}
 use Rattle.party.proofs.Refusals.{refusal-is-small}
-use Rattle.step.specs.Call.{Call, partyOf, recordOf}
+use Rattle.call.specs.Call.{Call, partyOf, recordOf}
 use Rattle.step.proofs.Stepped.{Stepped}
 use Rattle.history.specs.Run.{State, leaves, numberIn}
 use Rattle.history.specs.Finished.{isResult}

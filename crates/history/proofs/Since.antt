@@ -10,7 +10,7 @@ use native.Mathlib.Omega.{arith}
 use Rattle.party.specs.Record.{idle}
 use Rattle.party.specs.Answer.{isRefusal}
 use Rattle.party.specs.declared.Record.{Record}
-use Rattle.step.specs.Call.{Call, partyOf}
+use Rattle.call.specs.Call.{Call, partyOf}
 use Rattle.step.proofs.Stepped.{Stepped}
 use Rattle.history.specs.Run.{State, leaves, numberIn}
 use Rattle.history.proofs.Own.{Own, own}

@@ -9,7 +9,7 @@ use lib.Dec.{eqb}
 use native.Mathlib.Omega.{arith}
 use Rattle.logic.specs.Pick.{pick}
 use Rattle.party.specs.Record.{idle}
-use Rattle.step.specs.Call.{Call, partyOf, callOf, recordOf}
+use Rattle.call.specs.Call.{Call, partyOf, callOf, recordOf}
 use Rattle.plain.specs.Plain.{Plain}
 use Rattle.invariant.specs.Remembered.{RecordYields}
 use Rattle.placing.specs.Placing.{Adds}

@@ -5,7 +5,7 @@ use mathlib.Core.List.{List, [], _∷_, _++_}
 use lib.ListN.{getD, set, replicate}
 use lib.Dec.{leb}
 use Rattle.logic.specs.Pick.{pick}
-use Rattle.step.specs.Call.{Call, partyOf}
+use Rattle.call.specs.Call.{Call, partyOf}
 use Rattle.history.specs.Run.{Line, goesOn}
 
 -- what a party was last asked, and by which entry

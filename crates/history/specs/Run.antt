@@ -8,7 +8,7 @@ use Rattle.logic.specs.Pick.{pick}
 use Rattle.party.specs.Record.{idle}
 use Rattle.party.specs.Answer.{numberOf, carriedOf}
 use Rattle.party.specs.declared.Record.{Record}
-use Rattle.step.specs.Call.{Call, Left, partyOf, recordOf, callOf}
+use Rattle.call.specs.Call.{Call, Left, partyOf, recordOf, callOf}
 
 -- stands for what is past the end of a list of calls
 abbrev pub noCall : Call

@@ -17,7 +17,7 @@ use Rattle.party.specs.declared.Record.{Record}
 use Rattle.party.specs.declared.Answered.{Answered}
 use Rattle.party.proofs.Cleared.{max-within}
 use Rattle.step.specs.Step.{stripFits, maxOf}
-use Rattle.step.specs.Call.{Call, Fitting, partyOf, isUnknown, gate, ownOf, ownLeaves, recordOf, through, turnedAway, callOf}
+use Rattle.call.specs.Call.{Call, Fitting, partyOf, isUnknown, gate, ownOf, ownLeaves, recordOf, through, turnedAway, callOf}
 use Rattle.little.specs.Bytes.{bytesOf}
 use Rattle.header.specs.Header.{maxAt, partiesAt, versionAt}
 use Rattle.format.specs.Format.{wordPlace, partyPlace, headerRefusal, wordsBase}

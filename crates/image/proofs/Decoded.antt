@@ -12,7 +12,7 @@ use Rattle.logic.proofs.Lists.{every-set}
 use Rattle.word.specs.Word.{IsWord}
 use Rattle.party.specs.Record.{idle}
 use Rattle.party.specs.declared.Record.{Record}
-use Rattle.step.specs.Call.{Call, Fitting, gate, ownOf, ownLeaves, recordOf, partyOf, Left, through, turnedAway, callOf}
+use Rattle.call.specs.Call.{Call, Fitting, gate, ownOf, ownLeaves, recordOf, partyOf, Left, through, turnedAway, callOf}
 use Rattle.format.specs.Format.{headerRefusal}
 use Rattle.format.specs.Spelling.{stripOf, tableOf, spelled, RecordFits}
 use Rattle.image.specs.Calls.{decoded, spareRefused, imageOf}

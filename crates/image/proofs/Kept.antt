@@ -8,8 +8,8 @@ use lib.Dec.{eqb}
 use Rattle.logic.proofs.Bools.{whichever}
 use Rattle.party.specs.Answer.{isRefusal, numberOf, carriedOf}
 use Rattle.party.specs.declared.Answer.{Answer}
-use Rattle.step.specs.Call.{Call}
-use Rattle.step.proofs.Calls.{refused-call-changes-nothing}
+use Rattle.call.specs.Call.{Call}
+use Rattle.call.proofs.Calls.{refused-call-changes-nothing}
 use Rattle.format.specs.Format.{headerRefusal}
 use Rattle.format.specs.Spelling.{stripOf, tableOf}
 use Rattle.image.specs.Calls.{Done, spareRefused, imageOf, layRefusal, layOf, ImagePromise}

@@ -25,8 +25,8 @@ use Rattle.party.proofs.Cleared.{startable}
 use Rattle.step.specs.Stages.{accessOf}
 use Rattle.step.specs.Follow.{swappedOf}
 use Rattle.step.specs.Step.{maxOf, stepRefusal, aimed, followed, written, stepOf, stepLeaves}
-use Rattle.step.specs.Call.{Call, Fitting, ownOf, ownLeaves}
-use Rattle.step.specs.Call.Call.{start, step, withdraw}
+use Rattle.call.specs.Call.{Call, Fitting, ownOf, ownLeaves}
+use Rattle.call.specs.Call.Call.{start, step, withdraw}
 use Rattle.step.specs.declared.Access.{Access}
 use Rattle.step.specs.declared.Access.the-variants.{Look, Swap}
 use Rattle.step.proofs.Cleared.{steppable, hint-fits-k}

@@ -21,7 +21,7 @@ use Rattle.party.proofs.Cleared.{max-within}
 use Rattle.step.specs.Stages.{near, accessOf}
 use Rattle.step.specs.Follow.{lookedOf, swappedOf}
 use Rattle.step.specs.Step.{maxOf, stepOwn, stepRefusal, aimed}
-use Rattle.step.specs.Call.{Call}
+use Rattle.call.specs.Call.{Call}
 use Rattle.step.specs.declared.Access.{Access}
 use Rattle.step.specs.declared.Access.the-variants.{Look, Swap}
 use Rattle.step.specs.declared.AfterLook.{AfterLook}

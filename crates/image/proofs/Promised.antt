@@ -14,7 +14,7 @@ use Rattle.party.specs.declared.Answer.{Answer}
 use Rattle.party.specs.declared.Answer.the-variants.{GoesOn, Refused}
 use Rattle.step.specs.Stages.{accessOf}
 use Rattle.step.specs.Step.{stepOwn, aimed}
-use Rattle.step.specs.Call.{Call, partyOf, isUnknown}
+use Rattle.call.specs.Call.{Call, partyOf, isUnknown}
 use Rattle.step.specs.declared.Access.{Access}
 use Rattle.step.specs.declared.Access.the-variants.{Look, Swap}
 use Rattle.step.specs.declared.AfterLook.{AfterLook}

@@ -8,7 +8,7 @@ use lib.Dec.{eqb, leb}
 use Rattle.logic.specs.Pick.{pick}
 use Rattle.party.specs.declared.Answer.{Answer}
 use Rattle.party.specs.declared.Answer.the-variants.{GoesOn, Refused}
-use Rattle.step.specs.Call.{Call, partyOf, gate, Left, callOf}
+use Rattle.call.specs.Call.{Call, partyOf, gate, Left, callOf}
 use Rattle.header.specs.Header.{versionAt, partiesAt, maxAt}
 use Rattle.format.specs.Format.{sizesFit, headerRefusal, partyPlace}
 use Rattle.format.specs.Spelling.{stripOf, tableOf, isSpare, spelled}

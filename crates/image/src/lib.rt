@@ -20,7 +20,7 @@ use step::Access;
 use step::aim;
 use step::stages::access;
 use step::step_own;
-ghost use Rattle.step.specs.Call.{Call};
+ghost use Rattle.call.specs.Call.{Call};
 ghost use Rattle.image.specs.Calls.{layOf, imageOf, ImagePromise};
 
 // Lay: a fresh image. It looks at the length only, at no byte already there.

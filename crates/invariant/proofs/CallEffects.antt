@@ -13,12 +13,12 @@ use Rattle.party.specs.declared.Record.{Record}
 use Rattle.party.specs.declared.Answer.{Answer}
 use Rattle.party.proofs.Refusals.{refusal-is-small}
 use Rattle.step.specs.Step.{stripFits}
-use Rattle.step.specs.Call.{Call, callOf}
+use Rattle.call.specs.Call.{Call, callOf}
 use Rattle.plain.specs.Plain.{Plain}
 use Rattle.strip.specs.Shape.{StandsFor, Shaped}
 use Rattle.invariant.specs.Invariant.{Sane}
 use Rattle.invariant.specs.Remembered.{Remembers, RecordYields}
-use Rattle.step.proofs.Called.{Leaves, Called, called}
+use Rattle.call.proofs.Called.{Leaves, Called, called}
 use Rattle.invariant.proofs.StepEffects.{StepEffect, step-effect}
 
 module _ (strip : List ℕ) (table : List Record) (call : Call) (p : Plain) where

@@ -10,12 +10,12 @@ use Rattle.party.specs.declared.Record.{Record}
 use Rattle.party.specs.declared.Answer.{Answer}
 use Rattle.party.proofs.Kept.{begun-is-valid}
 use Rattle.step.specs.Step.{stripFits, maxOf}
-use Rattle.step.specs.Call.{Call, Fitting, callOf}
+use Rattle.call.specs.Call.{Call, Fitting, callOf}
 use Rattle.invariant.specs.Invariant.{Sane}
 use Rattle.invariant.proofs.Moves.{early-sound, idle-sound}
 use Rattle.invariant.proofs.Sanity.{set-early-sane}
 use Rattle.invariant.proofs.Steps.{step-sane}
-use Rattle.step.proofs.Called.{Leaves, Called, called}
+use Rattle.call.proofs.Called.{Leaves, Called, called}
 
 module _ (strip : List ℕ) (table : List Record) (call : Call) where
   -- what a call leaves is sane if what it went to is

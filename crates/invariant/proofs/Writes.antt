@@ -12,13 +12,13 @@ use Rattle.party.specs.Record.{idle}
 use Rattle.party.specs.declared.Record.{Record}
 use Rattle.step.specs.Stages.{own}
 use Rattle.step.specs.Step.{stepLeaves}
-use Rattle.step.specs.Call.{Call, recordOf, callOf}
+use Rattle.call.specs.Call.{Call, recordOf, callOf}
 use Rattle.step.proofs.Cleared.{Steppable}
 use Rattle.step.proofs.Went.{GoneOn}
 use Rattle.invariant.specs.Invariant.{Sane}
 use Rattle.swaps.proofs.Stale.{Wins, counter-kept}
 use Rattle.invariant.proofs.Sides.{own-is-null, Placed, placed, wins-at-place, wins-at-near}
-use Rattle.step.proofs.Called.{Called, called}
+use Rattle.call.proofs.Called.{Called, called}
 
 -- the value written fits a word if the record's order does
 pub data Written (strip : List ℕ) (order : ℕ) (left : List ℕ) : Type 0 where

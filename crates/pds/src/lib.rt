@@ -7,7 +7,7 @@ use party::Answer;
 use party::carried;
 use party::number;
 ghost use mathlib.Core.Path.{_≡_};
-ghost use Rattle.step.specs.Call.{Call};
+ghost use Rattle.call.specs.Call.{Call};
 ghost use Rattle.image.specs.Calls.{layOf, imageOf};
 ghost use Rattle.pds.specs.Packed.{packedOf, PackedPromise};
 

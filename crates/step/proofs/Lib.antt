@@ -4,5 +4,3 @@ pub mod EachStage
 pub mod Went
 pub mod Stepped
 pub mod Kept
-pub mod Called
-pub mod Calls

@@ -1,4 +1,3 @@
 pub mod Stages
 pub mod Follow
 pub mod Step
-pub mod Call

@@ -5,7 +5,6 @@ pub mod stages;
 use crate::follow::looked;
 use crate::follow::swapped;
 use crate::stages::access;
-use logic::pick_u32;
 use party::Answered;
 use party::Record;
 use party::make::refused_with;
@@ -16,7 +15,6 @@ use word::look;
 use word::swap;
 ghost use mathlib.Core.Path.{_≡_};
 ghost use Prim.Native.Nat.{_<_};
-ghost use Rattle.step.specs.Call.{tableFits, gateOf};
 ghost use Rattle.step.specs.Step.{stripFits, hintFits, stepOwn, stepRefusal, aimed, StepPromise};
 
 // What follows a look: the word is remembered as the first; as the second, and judged; or rechecks the first.
@@ -39,29 +37,11 @@ pub enum Access {
     Swap(u32, u64, u32, AfterSwap),
 }
 
-// These three are public for the calls on a whole strip and a table.
+// Public for the calls on a whole strip.
 pub fn strip_fits(words: usize) -> bool
     ensures { λ t. ⌜ t ≡ stripFits words ⌝ }
 {
     (3 <= words) & (words <= 4096)
-}
-
-pub fn table_fits(parties: usize) -> bool
-    ensures { λ t. ⌜ t ≡ tableFits parties ⌝ }
-{
-    (1 <= parties) & (parties <= 16)
-}
-
-// The checks before the record's own.
-pub fn gated(words: usize, unknown: bool, parties: usize, party: u32) -> u32
-    ensures { λ n. ⌜ n ≡ gateOf words parties unknown party ⌝ }
-{
-    let absent = pick_u32(parties <= party as usize, 3, 0);
-    pick_u32(
-        !(strip_fits(words) & table_fits(parties)),
-        1,
-        pick_u32(unknown, 11, absent),
-    )
 }
 
 fn hint_fits(max: u16, r: Record, hint: u32) -> bool

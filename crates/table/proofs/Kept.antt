@@ -13,8 +13,8 @@ use Rattle.party.specs.declared.Record.{Record}
 use Rattle.party.specs.declared.Answered.{Answered}
 use Rattle.step.specs.Stages.{near}
 use Rattle.step.specs.Step.{maxOf, stepLeaves}
-use Rattle.step.specs.Call.{Call, partyOf, gate, ownOf, ownLeaves, recordOf, callOf}
-use Rattle.step.proofs.Calls.{refused-call-changes-nothing, other-records-stand}
+use Rattle.call.specs.Call.{Call, partyOf, gate, ownOf, ownLeaves, recordOf, callOf}
+use Rattle.call.proofs.Calls.{refused-call-changes-nothing, other-records-stand}
 use Rattle.step.proofs.Accesses.{Gone}
 use Rattle.step.proofs.Went.{GoneOn, Went, went}
 use Rattle.table.specs.Lent.{Does, DoesAtMax, alone, blank}

@@ -11,8 +11,8 @@ use Rattle.party.specs.Record.{idle}
 use Rattle.party.specs.Calls.{maxFits, startOf, startRefusal, withdrawOf, withdrawRefusal}
 use Rattle.party.specs.declared.Record.{Record}
 use Rattle.step.specs.Step.{stripFits, maxOf, stepOf, stepLeaves, stepRefusal}
-use Rattle.step.specs.Call.{Call, partyOf, gate, ownOf, ownLeaves, recordOf, callOf}
-use Rattle.step.proofs.Called.{past-gate, call-through, call-away}
+use Rattle.call.specs.Call.{Call, partyOf, gate, ownOf, ownLeaves, recordOf, callOf}
+use Rattle.call.proofs.Called.{past-gate, call-through, call-away}
 use Rattle.table.specs.Lent.{Does, DoesAtMax, alone, blank}
 use Rattle.table.specs.Inside.{toldOf}
 use Rattle.table.specs.declared.Told.{Told}

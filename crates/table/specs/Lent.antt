@@ -4,7 +4,7 @@ use mathlib.Core.Path.{_≡_}
 use mathlib.Core.List.{List, [], _∷_}
 use lib.ListN.{replicate}
 use Rattle.party.specs.declared.Record.{Record}
-use Rattle.step.specs.Call.{Call, callOf}
+use Rattle.call.specs.Call.{Call, callOf}
 use Rattle.table.specs.Said.{saidOf}
 use Rattle.table.specs.declared.Said.{Said}
 

@@ -1,15 +1,15 @@
 // The lent table of records: start, step and withdraw of the numbered party, where its record stands; and of one record that is
 // lent alone. The work is done by functions that take and give the record by value.
+use call::gated;
 use party::Answer;
 use party::Answered;
 use party::Record;
-use step::gated;
 ghost use mathlib.Core.Path.{_≡_};
 ghost use Prim.Native.Nat.{_+_};
 ghost use Rattle.party.specs.Calls.{startOf, withdrawOf};
 ghost use Rattle.step.specs.Step.{stepOf, stepLeaves};
-ghost use Rattle.step.specs.Call.{gate};
-ghost use Rattle.step.specs.Call.Call.{start, step, withdraw};
+ghost use Rattle.call.specs.Call.{gate};
+ghost use Rattle.call.specs.Call.Call.{start, step, withdraw};
 ghost use Rattle.table.specs.Said.{saidOf};
 ghost use Rattle.table.specs.Lent.{alone, Does, DoesAtMax};
 ghost use Rattle.table.specs.Inside.{toldOf};

@@ -9,7 +9,7 @@ use Rattle.format.specs.Spelling.{recordBytes}
 use Rattle.little.proofs.Digits.{AreBytes}
 use lib.Dec.{ltb}
 use borrow.Author.Tests.{ltb-false}
-use Rattle.step.specs.Call.{Call}
+use Rattle.call.specs.Call.{Call}
 use Rattle.format.proofs.Gated.{named-fits}
 use Rattle.header.specs.Header.{versionAt}
 use Rattle.image.proofs.Promised.{keeps-stopped, clear, room, keeps-start-refused, keeps-start-done}

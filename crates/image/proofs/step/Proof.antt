@@ -5,7 +5,7 @@ use lib.ListN.{length}
 use denote.Ref.{now}
 use native.Mathlib.Omega.{arith}
 use Rattle.little.proofs.Digits.{AreBytes}
-use Rattle.step.specs.Call.{Call}
+use Rattle.call.specs.Call.{Call}
 use Rattle.step.specs.declared.Access.{Access}
 use Rattle.step.proofs.Cleared.{placeOf}
 use Rattle.format.specs.Format.{wordPlace, wordsBase}

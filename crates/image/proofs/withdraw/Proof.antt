@@ -7,7 +7,7 @@ use native.Mathlib.Omega.{arith}
 use Rattle.party.specs.declared.Record.{Record}
 use Rattle.format.specs.Spelling.{recordBytes}
 use Rattle.little.proofs.Digits.{AreBytes}
-use Rattle.step.specs.Call.{Call}
+use Rattle.call.specs.Call.{Call}
 use Rattle.header.specs.Header.{versionAt}
 use Rattle.image.proofs.Promised.{keeps-stopped, room, keeps-withdraw-refused, keeps-withdraw-done}
 use borrow.Author.Needs.{needs}

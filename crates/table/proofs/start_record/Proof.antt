@@ -13,7 +13,7 @@ use Rattle.party.specs.declared.Record.{Record}
 use Rattle.party.proofs.Record as R
 use Rattle.party.proofs.Record.Laws as R′
 use Rattle.party.specs.Calls.{startOf}
-use Rattle.step.specs.Call.{Call}
+use Rattle.call.specs.Call.{Call}
 use Rattle.table.specs.Inside.{toldOf}
 use Rattle.table.specs.Lent.{DoesAtMax, alone}
 use Rattle.table.specs.declared.Said.{Said}

@@ -17,10 +17,10 @@ use Rattle.party.specs.Answer.{isRefusal, numberOf, carriedOf}
 use Rattle.party.specs.declared.Record.{Record}
 use Rattle.party.specs.declared.Answer.{Answer}
 use Rattle.party.proofs.Kept.{idle-is-valid, begun-is-valid}
 use Rattle.step.specs.Step.{maxOf}
-use Rattle.step.specs.Call.{Call, partyOf, gate, Left, callOf}
+use Rattle.call.specs.Call.{Call, partyOf, gate, Left, callOf}
 use Rattle.step.proofs.Kept.{going-on-is-no-refusal, step-keeps-valid}
-use Rattle.step.proofs.Called.{Leaves, Called, called}
+use Rattle.call.proofs.Called.{Leaves, Called, called}
 
 -- A refused call carries no order and leaves every word and every record.
 pub record Unchanged (strip : List ℕ) (table : List Record) (left : Left) : Type 0 where

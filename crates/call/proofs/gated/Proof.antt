@@ -1,6 +1,6 @@
 use borrow.Author.Needs.{needs}
-use Rattle.step.proofs.gated.Statement.{statement}
-use Rattle.step.proofs.gated.Tie as tie
+use Rattle.call.proofs.gated.Statement.{statement}
+use Rattle.call.proofs.gated.Tie as tie
 
 pick-u32-requires : tie.Need-pick-u32-requires
 pick-u32-requires c κs = search needs

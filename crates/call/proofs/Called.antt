@@ -18,10 +18,10 @@ use Rattle.party.specs.declared.Answered.{Answered}
 use Rattle.party.specs.declared.Answer.the-variants.{GoesOn, Refused}
 use Rattle.party.proofs.Cleared.{Startable, startable}
 use Rattle.party.proofs.Refusals.{Checked, refusal-is-not-0, unless-none, unless-some, start-checked, withdraw-checked}
 use Rattle.step.specs.Step.{stripFits, maxOf, stepOf, stepLeaves}
-use Rattle.step.specs.Call.{Call, partyOf, tableFits, isUnknown, gate, ownOf, ownLeaves, Left, recordOf, through, turnedAway, callOf}
+use Rattle.call.specs.Call.{Call, partyOf, tableFits, isUnknown, gate, ownOf, ownLeaves, Left, recordOf, through, turnedAway, callOf}
 use Rattle.step.proofs.Cleared.{Steppable}
 use Rattle.step.proofs.Went.{GoneOn, Went, went}
 
 pub gate-checked : (words parties : ℕ) (call : Call) → Checked (gate words parties call)
 unfolding gate
