@@ -6,7 +6,7 @@ use mathlib.Core.List.{List}
 use lib.ListN.{length, getD, set}
 use lib.Seq.{sets, set-getD}
 use lib.Dec.{eqb, ltb}
-use borrow.Author.Tests.{eqb-true, eq-eqb, le-leb, not-false}
+use borrow.Author.Tests.{eqb-true, eq-eqb, not-false}
 use native.Mathlib.Omega.{arith}
 use Rattle.logic.proofs.Bools.{both, passed}
 use Rattle.party.specs.Valid.{validOf}
@@ -14,18 +14,19 @@ use Rattle.party.specs.declared.Record.{Record}
 use Rattle.step.specs.Step.{maxOf}
 use Rattle.little.specs.Bytes.{numberAt, bytesOf}
 use Rattle.little.proofs.Digits.{AreBytes, read-is-laid}
-use Rattle.image.specs.Format.{recordPlace, isMarked, maxAt, partiesAt, headerRefusal}
+use Rattle.image.specs.Format.{wordPlace, recordPlace, isMarked, maxAt, partiesAt, headerRefusal}
 use Rattle.image.specs.Spelling.{stripOf, tableOf, recordAt, recordsFrom, isSpare, wordBytes}
 use Rattle.image.specs.Calls.{headerBytes}
 use Rattle.image.proofs.Parts.{read-parts-laid}
 use Rattle.image.proofs.Words.{wordPart, words-are-parts, words-laid-are-parts}
-use Rattle.image.proofs.Records.{read-record-laid}
 use Rattle.image.proofs.Laying.{header-laid}
 use Rattle.image.proofs.Spelled.{strip-length, table-length, record-is-read}
-use Rattle.whole.specs.Whole.{allBelow, isSound, ReadPromise, sizesAgree, isValidIn, partyBytes, tableBytes, writeRefusal, writtenOf, WritePromise}
-use Rattle.whole.proofs.Below.{each-below, all-of-each}
-use Rattle.whole.proofs.Checked.{Lent, Readable, readable}
-use Rattle.whole.proofs.Laid.{party-laid, first-laid, written-laid}
+use Rattle.pieces.specs.Pieces.{allBelow, isSound, sizesAgree}
+use Rattle.whole.specs.Whole.{ReadPromise, isValidIn, tableBytes, writeRefusal, writtenOf, WritePromise}
+use Rattle.pieces.proofs.Below.{each-below, all-of-each}
+use Rattle.pieces.proofs.Checked.{is-lent, Readable, readable}
+use Rattle.pieces.proofs.PartyBytes.{party-is-laid}
+use Rattle.whole.proofs.Laid.{first-laid, written-laid}
 
 -- the mark, the version, the party count and MAX, laid where they stand
 pub header-is-laid : (image : List ℕ) → AreBytes image → headerRefusal image ≡ 0 → sets image 0 (headerBytes (maxAt image) (partiesAt image)) ≡ image
@@ -42,17 +43,11 @@ header-is-laid image are taken =
     let version : sets image 3 (bytesOf 2 1) ≡ image = ap (λ (n : ℕ). sets image 3 (bytesOf 2 n)) (sym (eqb-true (numberAt 2 image 3) 1 (last .1))) ∙ read-is-laid 2 image 3 are in
     header-laid image (maxAt image) (partiesAt image) ∙ rw (p, d, s, version, set-getD image 5 0) (read-is-laid 2 image 6 are)
 
-words-are-laid : (image : List ℕ) → AreBytes image → sets image 8 (wordBytes (stripOf image)) ≡ image
+words-are-laid : (image : List ℕ) → AreBytes image → sets image (wordPlace 0) (wordBytes (stripOf image)) ≡ image
 words-are-laid image are =
-    words-laid-are-parts (stripOf image) image 8 ∙ rw (words-are-parts (maxAt image + 2) image 8) (read-parts-laid wordPart (maxAt image + 2) image 8 are)
+    words-laid-are-parts (stripOf image) image (wordPlace 0) ∙ rw (words-are-parts (maxAt image + 2) image (wordPlace 0)) (read-parts-laid wordPart (maxAt image + 2) image (wordPlace 0) are)
 
--- a record whose spare bytes are zero, and all of them
-party-is-laid : (image : List ℕ) (at : ℕ) → AreBytes image → numberAt 8 image (at + 24) ≡ 0 → sets image at (partyBytes (recordAt image at)) ≡ image
-party-is-laid image at are spare =
-    sym (party-laid image at (recordAt image at))
-    ∙ ap (λ (l : List ℕ). sets l (at + 24) (bytesOf 8 0)) (read-record-laid image at are)
-    ∙ ap (λ (n : ℕ). sets image (at + 24) (bytesOf 8 n)) (sym spare) ∙ read-is-laid 8 image (at + 24) are
-
+-- records whose spare bytes are zero
 records-are-laid : (count : ℕ) (image : List ℕ) (at : ℕ) → AreBytes image → ((i : ℕ) → i < count → numberAt 8 image (at + 32 * i + 24) ≡ 0)
     → sets image at (tableBytes (recordsFrom image at count)) ≡ image
 unfolding tableBytes recordsFrom
@@ -76,13 +71,13 @@ module _ (image : List ℕ) (words parties : ℕ) (fits : Readable image words p
   max-of : maxOf (length (stripOf image)) ≡ maxAt image
   max-of = rw (strip-length image) (omega arith)
 
-  exact-of : length image ≡ 8 + 8 * length (stripOf image) + 32 * length (tableOf image)
+  exact-of : length image ≡ wordPlace (length (stripOf image)) + 32 * length (tableOf image)
   exact-of = omega (arith, fits .exact, strip-length image, table-length image)
 
   -- The bytes that spell what an image spells are the image.
   pub spelled-is-written : AreBytes image → writtenOf (stripOf image) (tableOf image) ≡ image
   spelled-is-written are =
-      let place : 8 + 8 * length (stripOf image) ≡ recordPlace (maxAt image) 0 = omega (arith, strip-length image) in
+      let place : wordPlace (length (stripOf image)) ≡ recordPlace (maxAt image) 0 = omega (arith, strip-length image) in
       let spare : (i : ℕ) → i < partiesAt image → numberAt 8 image (recordPlace (maxAt image) 0 + 32 * i + 24) ≡ 0 =
       λ i h. let moved : recordPlace (maxAt image) 0 + 32 * i + 24 ≡ recordPlace (maxAt image) i + 24 = omega arith in
       ap (numberAt 8 image) moved ∙ eqb-true (numberAt 8 image (recordPlace (maxAt image) i + 24)) 0 (parts-at i h .0) in
@@ -93,18 +88,15 @@ module _ (image : List ℕ) (words parties : ℕ) (fits : Readable image words p
   pub is-written : (bytes : ℕ) → bytes ≡ length image → writeRefusal bytes (length (stripOf image)) (tableOf image) ≡ 0
   unfolding writeRefusal
   is-written bytes same =
-      let right = fits .lent-right in
-      let sizes : sizesAgree bytes (length (stripOf image)) (length (tableOf image)) ≡ true = sized right in
+      let lent = is-lent words parties (fits .lent-right) in
+      let long = eq-eqb bytes (wordPlace words + 32 * parties) (omega (arith, same, fits .exact, fits .words-agree, fits .parties-agree)) in
+      let sizes : sizesAgree bytes (length (stripOf image)) (length (tableOf image)) ≡ true =
+      rw (max-of, strip-length image, table-length image, sym (fits .words-agree), sym (fits .parties-agree), lent, long) refl in
       let valid : allBelow (isValidIn (length (stripOf image)) (tableOf image)) (length (tableOf image)) ≡ true =
       all-of-each (isValidIn (length (stripOf image)) (tableOf image)) (length (tableOf image))
       (λ i h. let within : i < partiesAt image = omega (arith, h, table-length image) in
       rw (max-of, record-is-read image i within) (parts-at i within .1)) in
       rw (sizes, valid) refl
-    where
-      sized : Lent words parties → sizesAgree bytes (length (stripOf image)) (length (tableOf image)) ≡ true
-      sized right =
-          rw (max-of, strip-length image, table-length image, sym (fits .words-agree), sym (fits .parties-agree), le-leb 3 words (right .least), le-leb words 4096 (right .most), le-leb 1 parties (right .some), le-leb parties 16 (right .few))
-          (eq-eqb bytes (8 + 8 * words + 32 * parties) (omega (arith, same, fits .exact, fits .words-agree, fits .parties-agree)))
 
 -- An image that `read` takes, written from the strip and table it left over any region of its length, is the same bytes.
 pub read-then-written-is-the-same : (image strip : List ℕ) (table : List Record) (words : List ℕ) (records : List Record) (region : List ℕ) (number : ℕ) (bytes : List ℕ)

@@ -16,29 +16,19 @@ use Rattle.party.specs.declared.Record.{Record}
 use Rattle.step.specs.Step.{maxOf}
 use Rattle.little.specs.Bytes.{numberAt, bytesOf}
 use Rattle.little.proofs.Runs.{below-a-run}
-use Rattle.little.proofs.Digits.{number-below-run, laid-fitting-is-read}
-use Rattle.image.specs.Format.{recordPlace, lengthOf, isMarked, maxAt, partiesAt, sizesFit, headerRefusal}
-use Rattle.image.specs.Spelling.{stripOf, tableOf, wordsFrom, recordAt, recordsFrom, wordBytes, recordBytes, RecordFits}
+use Rattle.little.proofs.Digits.{number-below-run}
+use Rattle.image.specs.Format.{wordPlace, recordPlace, lengthOf, isMarked, maxAt, partiesAt, sizesFit, headerRefusal}
+use Rattle.image.specs.Spelling.{stripOf, tableOf, wordsFrom, recordAt, recordsFrom, wordBytes, RecordFits}
 use Rattle.image.specs.Calls.{headerBytes}
 use Rattle.image.proofs.Parts.{partsFrom, same-parts, part-at, laid-parts-read}
 use Rattle.image.proofs.Words.{wordPart, words-are-parts, words-laid-are-parts}
-use Rattle.image.proofs.Records.{recordPart, same-record, laid-record-read, records-are-parts}
-use Rattle.whole.specs.Whole.{allBelow, isSound, readRefusal, ReadPromise, sizesAgree, isValidIn, partyBytes, tableBytes, writeRefusal, writtenOf, WritePromise}
-use Rattle.whole.proofs.Below.{each-below, all-of-each}
-use Rattle.whole.proofs.Checked.{Lent, writable}
-use Rattle.whole.proofs.Laid.{party-laid, first-laid, length-written, written-laid}
-
--- a record's fields do not lie in its spare bytes
-spare-unread : (vs l : List ℕ) (at : ℕ) → recordAt (sets l (at + 24) vs) at ≡ recordAt l at
-unfolding recordAt
-spare-unread vs l at =
-    rw
-    (below-a-run vs l (at + 24) at (omega arith), below-a-run vs l (at + 24) (at + 1) (omega arith), number-below-run 2 vs l (at + 24) (at + 2) (omega arith), number-below-run 4 vs l (at + 24) (at + 4) (omega arith), number-below-run 8 vs l (at + 24) (at + 8) (omega arith), number-below-run 8 vs l (at + 24) (at + 16) (omega arith))
-    refl
-
-party-read : (l : List ℕ) (at : ℕ) (r : Record) → RecordFits r → at + 32 ≤ length l → recordAt (sets l at (partyBytes r)) at ≡ r
-party-read l at r fits long =
-    ap (λ (m : List ℕ). recordAt m at) (sym (party-laid l at r)) ∙ spare-unread (bytesOf 8 0) (sets l at (recordBytes r)) at ∙ laid-record-read l at r fits long
+use Rattle.image.proofs.Records.{recordPart, same-record, records-are-parts}
+use Rattle.pieces.specs.Pieces.{allBelow, isSound, readRefusal, sizesAgree, partyBytes}
+use Rattle.whole.specs.Whole.{ReadPromise, isValidIn, tableBytes, writeRefusal, writtenOf, WritePromise}
+use Rattle.pieces.proofs.Below.{each-below, all-of-each}
+use Rattle.pieces.proofs.Checked.{Lent, is-lent, refused-by-none, writable}
+use Rattle.pieces.proofs.PartyBytes.{party-read, spare-read}
+use Rattle.whole.proofs.Laid.{first-laid, length-written, written-laid}
 
 -- the records of a table that was laid, and their spare bytes
 laid-records-read : (table : List Record) (l : List ℕ) (at : ℕ) → Every RecordFits idle table → at + 32 * length table ≤ length l
@@ -58,11 +48,8 @@ laid-spare [] l at i h long = absurd (omega arith)
 laid-spare (r ∷ table) l at zero h long =
     let m = sets l at (partyBytes r) in
     let here : at + 32 * 0 + 24 ≡ at + 24 = omega arith in
-    let same = length-sets l at (recordBytes r) in
     rw (here, first-laid l at r table)
-    (number-below-run 8 (tableBytes table) m (at + 32) (at + 24) (omega arith)
-    ∙ ap (λ (k : List ℕ). numberAt 8 k (at + 24)) (sym (party-laid l at r))
-    ∙ laid-fitting-is-read 8 (sets l at (recordBytes r)) (at + 24) 0 (omega arith) (omega arith))
+    (number-below-run 8 (tableBytes table) m (at + 32) (at + 24) (omega arith) ∙ spare-read l at r (omega arith))
 laid-spare (r ∷ table) l at (suc i) h long =
     let m = sets l at (partyBytes r) in
     let moved : at + 32 * suc i + 24 ≡ at + 32 + 32 * i + 24 = omega arith in
@@ -103,59 +90,58 @@ module _ (strip : List ℕ) (table : List Record) (right : Lent (length strip) (
   headed = sets bytes 0 (headerBytes (maxOf (length strip)) (length table))
 
   abbrev worded : List ℕ
-  worded = sets headed 8 (wordBytes strip)
+  worded = sets headed (wordPlace 0) (wordBytes strip)
 
-  headed-length : length headed ≡ 8 + 8 * length strip + 32 * length table
+  headed-length : length headed ≡ wordPlace (length strip) + 32 * length table
   headed-length = length-sets bytes 0 (headerBytes (maxOf (length strip)) (length table)) ∙ length-written strip table
 
-  worded-length : length worded ≡ 8 + 8 * length strip + 32 * length table
-  worded-length = length-sets headed 8 (wordBytes strip) ∙ headed-length
+  worded-length : length worded ≡ wordPlace (length strip) + 32 * length table
+  worded-length = length-sets headed (wordPlace 0) (wordBytes strip) ∙ headed-length
 
-  as-laid : bytes ≡ sets worded (8 + 8 * length strip) (tableBytes table)
+  as-laid : bytes ≡ sets worded (wordPlace (length strip)) (tableBytes table)
   as-laid = sym (written-laid bytes strip table (length-written strip table))
 
   pub strip-is-read : Every IsWord 0 strip → stripOf bytes ≡ strip
   strip-is-read fit =
-      ap (wordsFrom bytes 8) words-are ∙ words-are-parts (length strip) bytes 8
-      ∙ ap (λ (l : List ℕ). partsFrom wordPart l 8 (length strip)) as-laid
-      ∙ same-parts wordPart (length strip) (sets worded (8 + 8 * length strip) (tableBytes table)) worded 8 (λ i lo hi. below-a-run (tableBytes table) worded (8 + 8 * length strip) i hi)
-      ∙ ap (λ (l : List ℕ). partsFrom wordPart l 8 (length strip)) (words-laid-are-parts strip headed 8)
-      ∙ laid-parts-read wordPart 0 strip headed 8 fit (omega (arith, headed-length))
+      ap (wordsFrom bytes (wordPlace 0)) words-are ∙ words-are-parts (length strip) bytes (wordPlace 0)
+      ∙ ap (λ (l : List ℕ). partsFrom wordPart l (wordPlace 0) (length strip)) as-laid
+      ∙ same-parts wordPart (length strip) (sets worded (wordPlace (length strip)) (tableBytes table)) worded (wordPlace 0) (λ i lo hi. below-a-run (tableBytes table) worded (wordPlace (length strip)) i hi)
+      ∙ ap (λ (l : List ℕ). partsFrom wordPart l (wordPlace 0) (length strip)) (words-laid-are-parts strip headed (wordPlace 0))
+      ∙ laid-parts-read wordPart 0 strip headed (wordPlace 0) fit (omega (arith, headed-length))
 
-  records-are-read : Every RecordFits idle table → recordsFrom bytes (8 + 8 * length strip) (length table) ≡ table
+  records-are-read : Every RecordFits idle table → recordsFrom bytes (wordPlace (length strip)) (length table) ≡ table
   records-are-read fit =
-      ap (λ (l : List ℕ). recordsFrom l (8 + 8 * length strip) (length table)) as-laid
-      ∙ laid-records-read table worded (8 + 8 * length strip) fit (omega (arith, worded-length))
+      ap (λ (l : List ℕ). recordsFrom l (wordPlace (length strip)) (length table)) as-laid
+      ∙ laid-records-read table worded (wordPlace (length strip)) fit (omega (arith, worded-length))
 
-  place-of : (i : ℕ) → recordPlace (maxAt bytes) i ≡ 8 + 8 * length strip + 32 * i
+  place-of : (i : ℕ) → recordPlace (maxAt bytes) i ≡ wordPlace (length strip) + 32 * i
   place-of i = omega (arith, words-are)
 
   pub table-is-read : Every RecordFits idle table → tableOf bytes ≡ table
   table-is-read fit =
-      let start : recordPlace (maxAt bytes) 0 ≡ 8 + 8 * length strip = omega (arith, words-are) in
-      ap (λ (at : ℕ). recordsFrom bytes at (partiesAt bytes)) start ∙ ap (recordsFrom bytes (8 + 8 * length strip)) parties-are ∙ records-are-read fit
+      let start : recordPlace (maxAt bytes) 0 ≡ wordPlace (length strip) = omega (arith, words-are) in
+      ap (λ (at : ℕ). recordsFrom bytes at (partiesAt bytes)) start ∙ ap (recordsFrom bytes (wordPlace (length strip))) parties-are ∙ records-are-read fit
 
-  record-read : Every RecordFits idle table → (i : ℕ) → i < length table → recordAt bytes (8 + 8 * length strip + 32 * i) ≡ getD table i idle
+  record-read : Every RecordFits idle table → (i : ℕ) → i < length table → recordAt bytes (wordPlace (length strip) + 32 * i) ≡ getD table i idle
   record-read fit i h =
-      sym (part-at recordPart (length table) bytes (8 + 8 * length strip) i idle h)
-      ∙ ap (λ (l : List Record). getD l i idle) (sym (records-are-parts (length table) bytes (8 + 8 * length strip)) ∙ records-are-read fit)
+      sym (part-at recordPart (length table) bytes (wordPlace (length strip)) i idle h)
+      ∙ ap (λ (l : List Record). getD l i idle) (sym (records-are-parts (length table) bytes (wordPlace (length strip))) ∙ records-are-read fit)
 
-  spare-read : (i : ℕ) → i < length table → numberAt 8 bytes (8 + 8 * length strip + 32 * i + 24) ≡ 0
-  spare-read i h =
-      ap (λ (l : List ℕ). numberAt 8 l (8 + 8 * length strip + 32 * i + 24)) as-laid
-      ∙ laid-spare table worded (8 + 8 * length strip) i h (omega (arith, worded-length))
+  spare-at : (i : ℕ) → i < length table → numberAt 8 bytes (wordPlace (length strip) + 32 * i + 24) ≡ 0
+  spare-at i h =
+      ap (λ (l : List ℕ). numberAt 8 l (wordPlace (length strip) + 32 * i + 24)) as-laid
+      ∙ laid-spare table worded (wordPlace (length strip)) i h (omega (arith, worded-length))
 
   -- every check of reading passes
   pub is-readable : Every RecordFits idle table → allBelow (isValidIn (length strip) table) (length table) ≡ true → readRefusal bytes (length strip) (length table) ≡ 0
-  unfolding readRefusal
   is-readable fit valid =
       let each : (i : ℕ) → i < length table → isSound bytes (maxAt bytes) i ≡ true =
-      λ i h. rw (place-of i, spare-read i h, record-read fit i h, max-is) (each-below (isValidIn (length strip) table) (length table) valid i h) in
+      λ i h. rw (place-of i, spare-at i h, record-read fit i h, max-is) (each-below (isValidIn (length strip) table) (length table) valid i h) in
       let sound : allBelow (isSound bytes (maxAt bytes)) (partiesAt bytes) ≡ true =
       ap (allBelow (isSound bytes (maxAt bytes))) parties-are ∙ all-of-each (isSound bytes (maxAt bytes)) (length table) each in
       let words : eqb (length strip) (maxAt bytes + 2) ≡ true = eq-eqb (length strip) (maxAt bytes + 2) (sym words-are) in
       let parties : eqb (length table) (partiesAt bytes) ≡ true = eq-eqb (length table) (partiesAt bytes) (sym parties-are) in
-      rw (le-leb 3 (length strip) (right .least), le-leb (length strip) 4096 (right .most), le-leb 1 (length table) (right .some), le-leb (length table) 16 (right .few), is-taken, words, parties, sound) refl
+      refused-by-none bytes (length strip) (length table) (is-lent (length strip) (length table) right) is-taken (rw (words, parties) refl) sound
 
 -- A strip and a table that `write` takes, read from the bytes it left into a strip and a table of their lengths, are the same.
 pub written-then-read-is-the-same : (image strip : List ℕ) (table : List Record) (bytes strip′ : List ℕ) (table′ : List Record) (number : ℕ) (words : List ℕ) (records : List Record)

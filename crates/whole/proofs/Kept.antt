@@ -5,7 +5,8 @@ use mathlib.Core.List.{List}
 use lib.ListN.{length}
 use borrow.Author.Tests.{ne-eqb}
 use Rattle.party.specs.declared.Record.{Record}
-use Rattle.whole.specs.Whole.{readRefusal, ReadPromise, writeRefusal, WritePromise}
+use Rattle.pieces.specs.Pieces.{readRefusal}
+use Rattle.whole.specs.Whole.{ReadPromise, writeRefusal, WritePromise}
 
 -- Two results that keep one promise have the same number, words and records, or bytes.
 pub record SameRead (one : ℕ) (words : List ℕ) (records : List Record) (two : ℕ) (words′ : List ℕ) (records′ : List Record) : Type 0 where

@@ -9,28 +9,21 @@ use native.Mathlib.Numerals.{add-one}
 use native.Mathlib.Omega.{arith}
 use Rattle.party.specs.Record.{idle}
 use Rattle.party.specs.declared.Record.{Record}
-use Rattle.little.specs.Bytes.{bytesOf}
 use Rattle.little.proofs.Runs.{run-append, whole-run}
-use Rattle.little.proofs.Digits.{length-bytes}
 use Rattle.step.specs.Step.{maxOf}
-use Rattle.image.specs.Spelling.{wordBytes, recordBytes}
+use Rattle.image.specs.Format.{wordPlace}
+use Rattle.image.specs.Spelling.{wordBytes}
 use Rattle.image.specs.Calls.{headerBytes}
 use Rattle.image.proofs.Laying.{length-header, length-word-bytes}
-use Rattle.image.proofs.Records.{length-record}
-use Rattle.whole.specs.Whole.{partyBytes, tableBytes, writtenOf}
-
-pub length-party : (r : Record) → length (partyBytes r) ≡ 32
-length-party r = length-append (recordBytes r) (bytesOf 8 0) ∙ omega (arith, length-record r, length-bytes 8 0)
+use Rattle.pieces.specs.Pieces.{partyBytes}
+use Rattle.pieces.proofs.PartyBytes.{length-party}
+use Rattle.whole.specs.Whole.{tableBytes, writtenOf}
 
 pub length-table-bytes : (table : List Record) → length (tableBytes table) ≡ 32 * length table
 unfolding tableBytes
 length-table-bytes [] = refl
 length-table-bytes (r ∷ table) =
     length-append (partyBytes r) (tableBytes table) ∙ omega (arith, length-party r, length-table-bytes table)
-
--- the record and its zeros
-pub party-laid : (l : List ℕ) (at : ℕ) (r : Record) → sets (sets l at (recordBytes r)) (at + 24) (bytesOf 8 0) ≡ sets l at (partyBytes r)
-party-laid l at r = sym (run-append (recordBytes r) (bytesOf 8 0) l at ∙ rw (length-record r) refl)
 
 pub first-laid : (l : List ℕ) (at : ℕ) (r : Record) (table : List Record)
     → sets l at (tableBytes (r ∷ table)) ≡ sets (sets l at (partyBytes r)) (at + 32) (tableBytes table)
@@ -55,15 +48,15 @@ pub one-record-more : (image : List ℕ) (at : ℕ) (table : List Record) (i : �
 one-record-more image at table i h = rw (add-one i) (one-more-laid table image at i h)
 
 -- the header, the words and the records over all of the bytes
-pub length-written : (strip : List ℕ) (table : List Record) → length (writtenOf strip table) ≡ 8 + 8 * length strip + 32 * length table
+pub length-written : (strip : List ℕ) (table : List Record) → length (writtenOf strip table) ≡ wordPlace (length strip) + 32 * length table
 length-written strip table =
     let header = headerBytes (maxOf (length strip)) (length table) in
     length-append header (wordBytes strip ++ tableBytes table)
     ∙ ap (λ (n : ℕ). length header + n) (length-append (wordBytes strip) (tableBytes table))
     ∙ omega (arith, length-header (maxOf (length strip)) (length table), length-word-bytes strip, length-table-bytes table)
 
-pub written-laid : (image strip : List ℕ) (table : List Record) → length image ≡ 8 + 8 * length strip + 32 * length table
-    → sets (sets (sets image 0 (headerBytes (maxOf (length strip)) (length table))) 8 (wordBytes strip)) (8 + 8 * length strip) (tableBytes table)
+pub written-laid : (image strip : List ℕ) (table : List Record) → length image ≡ wordPlace (length strip) + 32 * length table
+    → sets (sets (sets image 0 (headerBytes (maxOf (length strip)) (length table))) (wordPlace 0) (wordBytes strip)) (wordPlace (length strip)) (tableBytes table)
     ≡ writtenOf strip table
 written-laid image strip table exact =
     let header = headerBytes (maxOf (length strip)) (length table) in

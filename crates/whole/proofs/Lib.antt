@@ -1,7 +1,5 @@
-pub mod Below
-pub mod Filled
+pub mod Found
 pub mod Laid
-pub mod Checked
 pub mod Promised
 pub mod Kept
 pub mod Again

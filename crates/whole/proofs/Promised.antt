@@ -10,14 +10,15 @@ use native.Mathlib.Omega.{arith}
 use Rattle.logic.specs.Pick.{pick}
 use Rattle.logic.proofs.Bools.{passed}
 use Rattle.party.specs.declared.Record.{Record}
-use Rattle.image.specs.Format.{recordPlace, maxAt}
+use Rattle.image.specs.Format.{wordPlace, recordPlace, maxAt}
 use Rattle.step.specs.Step.{maxOf}
 use Rattle.image.specs.Spelling.{wordsFrom, recordsFrom, wordBytes}
 use Rattle.image.specs.Calls.{headerBytes}
-use Rattle.whole.specs.Whole.{allBelow, readRefusal, ReadPromise, sizesAgree, isValidIn, tableBytes, writeRefusal, WritePromise}
-use Rattle.whole.proofs.Below.{foundBy}
+use Rattle.pieces.specs.Pieces.{allBelow, readRefusal, sizesAgree}
+use Rattle.whole.specs.Whole.{ReadPromise, isValidIn, tableBytes, writeRefusal, WritePromise}
+use Rattle.whole.proofs.Found.{foundBy}
 use Rattle.whole.proofs.Laid.{written-laid}
-use Rattle.whole.proofs.Checked.{Readable, readable, Writable, writable}
+use Rattle.pieces.proofs.Checked.{Readable, readable, Writable, writable}
 
 module _ (image strip : List ℕ) (table : List Record) (n : ℕ) (checked : n ≡ readRefusal image (length strip) (length table)) where
   -- the checks refuse: their number, and nothing is written
@@ -34,21 +35,21 @@ module _ (image strip : List ℕ) (table : List Record) (n : ℕ) (checked : n �
     fits = readable image (length strip) (length table) clear
 
     -- what is read lies inside
-    pub words-inside : 8 + 8 * length strip ≤ length image
+    pub words-inside : wordPlace (length strip) ≤ length image
     words-inside = omega (arith, fits .exact, fits .words-agree)
 
-    pub records-inside : 8 + 8 * length strip + 32 * length table ≤ length image
+    pub records-inside : wordPlace (length strip) + 32 * length table ≤ length image
     records-inside = omega (arith, fits .exact, fits .words-agree, fits .parties-agree)
 
     -- they pass: the words and the records of the image
-    pub read-done : (words : List ℕ) (records : List Record) → words ≡ wordsFrom image 8 (length strip)
-        → records ≡ recordsFrom image (8 + 8 * length strip) (length table) → ReadPromise image strip table 0 words records
+    pub read-done : (words : List ℕ) (records : List Record) → words ≡ wordsFrom image (wordPlace 0) (length strip)
+        → records ≡ recordsFrom image (wordPlace (length strip)) (length table) → ReadPromise image strip table 0 words records
     read-done words records ws rs =
         let test = eq-eqb (readRefusal image (length strip) (length table)) 0 clear in
-        let place : 8 + 8 * length strip ≡ recordPlace (maxAt image) 0 = omega (arith, fits .words-agree) in
+        let place : wordPlace (length strip) ≡ recordPlace (maxAt image) 0 = omega (arith, fits .words-agree) in
         record {
           number-read = sym clear;
-          words-read = ws ∙ ap (wordsFrom image 8) (fits .words-agree) ∙ rw test refl;
+          words-read = ws ∙ ap (wordsFrom image (wordPlace 0)) (fits .words-agree) ∙ rw test refl;
           records-read = rs ∙ ap (λ (at : ℕ). recordsFrom image at (length table)) place
               ∙ ap (recordsFrom image (recordPlace (maxAt image) 0)) (fits .parties-agree) ∙ rw test refl;
         }
@@ -89,10 +90,10 @@ module _ (image strip : List ℕ) (table : List Record) (n : ℕ) (checked : n �
     words-within = (omega (arith, sizes .lent-right .least), sizes .lent-right .most)
 
     -- what is written lies inside
-    pub front-inside : (8 + 8 * length strip ≤ length image) × ((2 ≤ length strip) × ((length strip ≤ 4096) × (length table ≤ 16)))
+    pub front-inside : (wordPlace (length strip) ≤ length image) × ((2 ≤ length strip) × ((length strip ≤ 4096) × (length table ≤ 16)))
     front-inside = (omega (arith, sizes .exact), (words-within .0, (words-within .1, sizes .lent-right .few)))
 
-    pub table-inside : (front : List ℕ) → length front ≡ length image → 8 + 8 * length strip + 32 * length table ≤ length front
+    pub table-inside : (front : List ℕ) → length front ≡ length image → wordPlace (length strip) + 32 * length table ≤ length front
     table-inside front long = omega (arith, sizes .exact, long)
 
     module _ (m : ℕ) (looked : m ≡ pick (allBelow (isValidIn (length strip) table) (length table)) 0 4) where
@@ -110,13 +111,13 @@ module _ (image strip : List ℕ) (table : List Record) (n : ℕ) (checked : n �
       pub records-refused : (m ≡ 0 → ⊥) → WritePromise image strip table m image
       records-refused some = kept m (looked ∙ turned) some
 
-      pub write-done : m ≡ 0 → (front bytes : List ℕ) → front ≡ sets (sets image 0 (headerBytes (maxOf (length strip)) (length table))) 8 (wordBytes strip)
-          → bytes ≡ sets front (8 + 8 * length strip) (tableBytes table) → WritePromise image strip table 0 bytes
+      pub write-done : m ≡ 0 → (front bytes : List ℕ) → front ≡ sets (sets image 0 (headerBytes (maxOf (length strip)) (length table))) (wordPlace 0) (wordBytes strip)
+          → bytes ≡ sets front (wordPlace (length strip)) (tableBytes table) → WritePromise image strip table 0 bytes
       write-done zero front bytes laid last =
           let clear = sym turned ∙ sym looked ∙ zero in
           let test = eq-eqb refusal 0 clear in
           record {
             number-written = sym clear;
-            bytes-written = last ∙ ap (λ (l : List ℕ). sets l (8 + 8 * length strip) (tableBytes table)) laid
+            bytes-written = last ∙ ap (λ (l : List ℕ). sets l (wordPlace (length strip)) (tableBytes table)) laid
                 ∙ written-laid image strip table (sizes .exact) ∙ rw test refl;
           }

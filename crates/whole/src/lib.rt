@@ -1,28 +1,27 @@
 // Whole images: one read into a lent strip and a lent table, and one written from them. All checks come first, so a refusal writes
-// nothing. The loops over the lent table are functions of their own, walked by hand; the work of a turn is done by value.
-mod reading;
-mod writing;
-
-use crate::reading::read_refusal;
-use crate::reading::read_strip;
-use crate::reading::record_in;
-use crate::writing::next_refusal;
-use crate::writing::sizes_refusal;
-use crate::writing::write_front;
-use crate::writing::write_party;
+// nothing. The loops over the lent table are functions of their own, walked by hand; the work of a turn is done by value, in `pieces`.
 use party::Record;
+use pieces::reading::read_refusal;
+use pieces::reading::read_strip;
+use pieces::reading::record_in;
+use pieces::writing::next_refusal;
+use pieces::writing::sizes_refusal;
+use pieces::writing::write_front;
+use pieces::writing::write_party;
 ghost use mathlib.Core.Path.{_≡_};
 ghost use Prim.Native.Nat.{_+_, _*_, _≤_};
 ghost use lib.ListN.{length};
 ghost use lib.Seq.{sets};
 ghost use Rattle.logic.specs.Pick.{pick};
+ghost use Rattle.image.specs.Format.{wordPlace};
 ghost use Rattle.image.specs.Spelling.{recordsFrom};
-ghost use Rattle.whole.specs.Whole.{allBelow, isValidIn, tableBytes, ReadPromise, WritePromise};
+ghost use Rattle.pieces.specs.Pieces.{allBelow};
+ghost use Rattle.whole.specs.Whole.{isValidIn, tableBytes, ReadPromise, WritePromise};
 
 // The records of the image, which stand after its words.
 fn read_table(image: &[u8], words: usize, table: &mut [Record])
-    requires { ⌜ 8 + 8 * words + 32 * length (now table) ≤ length (now image) ⌝ }
-    ensures { λ _. ⌜ now (table .exit) ≡ recordsFrom (now (image .entry)) (8 + 8 * words) (length (now (table .entry))) ⌝ }
+    requires { ⌜ wordPlace words + 32 * length (now table) ≤ length (now image) ⌝ }
+    ensures { λ _. ⌜ now (table .exit) ≡ recordsFrom (now (image .entry)) (wordPlace words) (length (now (table .entry))) ⌝ }
 {
     let mut i: usize = 0;
     while i < table.len() {
@@ -59,8 +58,8 @@ fn table_refusal(words: usize, table: &[Record]) -> u32
 }
 
 fn write_table(image: &mut [u8], words: usize, table: &[Record])
-    requires { ⌜ 8 + 8 * words + 32 * length (now table) ≤ length (now image) ⌝ }
-    ensures { λ _. ⌜ now (image .exit) ≡ sets (now (image .entry)) (8 + 8 * words) (tableBytes (now (table .entry))) ⌝ }
+    requires { ⌜ wordPlace words + 32 * length (now table) ≤ length (now image) ⌝ }
+    ensures { λ _. ⌜ now (image .exit) ≡ sets (now (image .entry)) (wordPlace words) (tableBytes (now (table .entry))) ⌝ }
 {
     let mut i: usize = 0;
     while i < table.len() {

@@ -11,17 +11,19 @@ use Rattle.walks.proofs.Prelude.{onEntry, Meets, tripleOf, Contract, Triple, ca
 use Rattle.walks.proofs.Steps.{shares-on, gives-up, after-call, guards, frees-local, frees-room, with-usize, result-u32, result-unit, some-number, no-number}
 use Rattle.party.specs.declared.Record.{Record}
 use Rattle.party.proofs.Record as R
+use Rattle.image.specs.Format.{wordPlace}
 use Rattle.image.specs.Spelling.{wordsFrom, recordsFrom}
-use Rattle.whole.specs.Whole.{readRefusal, ReadPromise}
+use Rattle.pieces.specs.Pieces.{readRefusal}
+use Rattle.whole.specs.Whole.{ReadPromise}
 use Rattle.whole.proofs.Promised.{read-refused, read-done, words-inside, records-inside}
-use Rattle.whole.proofs.reading.read_refusal as read-refusal
-use Rattle.whole.proofs.reading.read_refusal.Symbol as read-refusal-def
-use Rattle.whole.proofs.reading.read_refusal.Symbol.{name as #whole·read-refusal}
-use Rattle.whole.proofs.reading.read_refusal.Met as read-refusal-thm
-use Rattle.whole.proofs.reading.read_strip as read-strip
-use Rattle.whole.proofs.reading.read_strip.Symbol as read-strip-def
-use Rattle.whole.proofs.reading.read_strip.Symbol.{name as #whole·read-strip}
-use Rattle.whole.proofs.reading.read_strip.Met as read-strip-thm
+use Rattle.pieces.proofs.reading.read_refusal as read-refusal
+use Rattle.pieces.proofs.reading.read_refusal.Symbol as read-refusal-def
+use Rattle.pieces.proofs.reading.read_refusal.Symbol.{name as #pieces·read-refusal}
+use Rattle.pieces.proofs.reading.read_refusal.Met as read-refusal-thm
+use Rattle.pieces.proofs.reading.read_strip as read-strip
+use Rattle.pieces.proofs.reading.read_strip.Symbol as read-strip-def
+use Rattle.pieces.proofs.reading.read_strip.Symbol.{name as #pieces·read-strip}
+use Rattle.pieces.proofs.reading.read_strip.Met as read-strip-thm
 use Rattle.whole.proofs.read_table as read-table
 use Rattle.whole.proofs.read_table.Symbol as read-table-def
 use Rattle.whole.proofs.read_table.Symbol.{name as #whole·read-table}
@@ -92,7 +94,7 @@ module _ {M : Type 1} (𝓤 : URA M) (H : Heap 𝓤) (A : Atoms 𝓤) (W : Given
   abbrev to-words : Words 𝓤 H A at-mem run .Ghost
   to-words = (((κ₀, (κ₁, tt)), (q₀, (q₁, tt)), tt, (image, (strip, tt)), (image-val ∷ [], (strip-val ∷ [], tt))), tt)
 
-  goes-words : 8 + 8 * length ys ≤ length xs
+  goes-words : wordPlace (length ys) ≤ length xs
       → ent 𝓤 (sep 𝓤 (sem 𝓤 H A (ShrSlice (named 0) κ₀ u8 .own image (image-val ∷ []))) (sep 𝓤 (A .lft κ₀ q₀) (sep 𝓤 (sem 𝓤 H A (MutSlice (named 1) κ₁ u64 .own strip (strip-val ∷ []))) (A .lft κ₁ q₁)))) (Words 𝓤 H A at-mem run .pre to-words)
   goes-words inside =
       qed W (‵ (ShrSlice (named 0) κ₀ u8 .own image (image-val ∷ [])) ∷ ‵ (flft κ₀ q₀) ∷ ‵ (MutSlice (named 1) κ₁ u64 .own strip (strip-val ∷ [])) ∷ ‵ (flft κ₁ q₁) ∷ []) ∵ says ! inside $
@@ -101,7 +103,7 @@ module _ {M : Type 1} (𝓤 : URA M) (H : Heap 𝓤) (A : Atoms 𝓤) (W : Given
   abbrev to-records : Records 𝓤 H A at-mem run .Ghost
   to-records = (((κ₀, (κ₂, tt)), (q₀, (q₂, tt)), tt, (image, (length ys, (table, tt))), (image-val ∷ [], (vint w64 (length ys) ∷ [], (table-val ∷ [], tt)))), tt)
 
-  goes-records : 8 + 8 * length ys + 32 * length ts ≤ length xs
+  goes-records : wordPlace (length ys) + 32 * length ts ≤ length xs
       → ent 𝓤 (sep 𝓤 (sem 𝓤 H A (ShrSlice (named 0) κ₀ u8 .own image (image-val ∷ []))) (sep 𝓤 (A .lft κ₀ q₀) (sep 𝓤 (sem 𝓤 H A (MutSlice (named 1) κ₂ R.the-row .own table (table-val ∷ []))) (A .lft κ₂ q₂)))) (Records 𝓤 H A at-mem run .pre to-records)
   goes-records inside =
       qed W (‵ (ShrSlice (named 0) κ₀ u8 .own image (image-val ∷ [])) ∷ ‵ (flft κ₀ q₀) ∷ ‵ (MutSlice (named 1) κ₂ R.the-row .own table (table-val ∷ [])) ∷ ‵ (flft κ₂ q₂) ∷ []) ∵ says ! inside $
@@ -116,8 +118,8 @@ module _ {M : Type 1} (𝓤 : URA M) (H : Heap 𝓤) (A : Atoms 𝓤) (W : Given
       nothing ! $ move ! (2 ∷ 0 ∷ []) $ fjoin ! $ move ! (1 ∷ 0 ∷ []) $ fjoin ! $ nothing ! $ fjoin ! $
       owned ! u32 (Is u32) (uint-makes 𝓤 H A W w32) n _ (refl, n-fits) $ move ! (1 ∷ 0 ∷ []) $ done !
 
-  module _ (C : Calls 𝓤 H) (Λ : Loops 𝓤 H) (fm : FmC 𝓤 H (W .laws) C) (known-refusal : Triple 𝓤 (C #whole·read-refusal) (Refusal 𝓤 H A at-mem run))
-      (known-words : Triple 𝓤 (C #whole·read-strip) (Words 𝓤 H A at-mem run)) (known-records : Triple 𝓤 (C #whole·read-table) (Records 𝓤 H A at-mem run)) where
+  module _ (C : Calls 𝓤 H) (Λ : Loops 𝓤 H) (fm : FmC 𝓤 H (W .laws) C) (known-refusal : Triple 𝓤 (C #pieces·read-refusal) (Refusal 𝓤 H A at-mem run))
+      (known-words : Triple 𝓤 (C #pieces·read-strip) (Words 𝓤 H A at-mem run)) (known-records : Triple 𝓤 (C #whole·read-table) (Records 𝓤 H A at-mem run)) where
     walk : ent 𝓤 (onEntry 𝓤 H A read.signature (κ₀, (κ₁, (κ₂, tt))) (q₀, (q₁, (q₂, tt))) a vals) (WpFn 𝓤 H C Λ code.function (image-val ∷ strip-val ∷ table-val ∷ []) Post)
     walk =
         qed W ((‵ (flft κ₀ q₀) ⊛ (‵ (flft κ₁ q₁) ⊛ (‵ (flft κ₂ q₂) ⊛ ‵ ftrue))) ∷ ‵ (owns (ShrSlice (named 0) κ₀ u8 ∷ MutSlice (named 1) κ₁ u64 ∷ MutSlice (named 2) κ₂ R.the-row ∷ []) a vals) ∷ []) ∵
@@ -149,7 +151,7 @@ module _ {M : Type 1} (𝓤 : URA M) (H : Heap 𝓤) (A : Atoms 𝓤) (W : Given
         -- [the call; the image; the table; its token; _12; …], with _i at 4 + 2 · (12 − i)
         calls-at ! fm (Words 𝓤 H A at-mem run) known-words to-words (and-then ! (load ! (from ! (stop !)) (look ! 26 refl)) (and-then ! (load ! (from ! (stop !)) (look ! 8 refl)) (no-more !))) (λ w₁.
         after-call ! tt read-strip.ended (read-strip.clauses 𝓤 H A at-mem run) to-words w₁ (λ u₁ zs.
-        move ! (3 ∷ []) $ heard ! (zs .1 .0 ≡ wordsFrom xs 8 (length ys)) (λ e₁. use1 W (‵ (flft κ₀ q₀) ⊛ (‵ (flft κ₁ q₁) ⊛ ‵ ftrue)) (id⊢ 𝓤 _) $ split ! $ move ! (1 ∷ []) $ split ! $
+        move ! (3 ∷ []) $ heard ! (zs .1 .0 ≡ wordsFrom xs (wordPlace 0) (length ys)) (λ e₁. use1 W (‵ (flft κ₀ q₀) ⊛ (‵ (flft κ₁ q₁) ⊛ ‵ ftrue)) (id⊢ 𝓤 _) $ split ! $ move ! (1 ∷ []) $ split ! $
         -- [the strip's token; true; the image's token; the result; the last words; the image; …]
         move ! (4 ∷ []) $ fsplit ! $ move ! (1 ∷ []) $ fsplit ! $ fsplit ! $ move ! (1 ∷ []) $ feqL ! (λ l₁. move ! (6 ∷ []) $ result-unit ! w₁ $
         move ! (1 ∷ []) $ drop ! $ move ! (1 ∷ []) $ drop ! $ move ! (2 ∷ []) $ drop ! $
@@ -162,7 +164,7 @@ module _ {M : Type 1} (𝓤 : URA M) (H : Heap 𝓤) (A : Atoms 𝓤) (W : Given
         -- [the call; the last words; the strip's token; _12; …], with _i at 3 + 2 · (12 − i)
         calls-at ! fm (Records 𝓤 H A at-mem run) known-records to-records (and-then ! (load ! (from ! (stop !)) (look ! 25 refl)) (and-then ! (load ! (from ! (stop !)) (look ! 17 refl)) (and-then ! (load ! (from ! (stop !)) (look ! 3 refl)) (no-more !)))) (λ w₂.
         after-call ! tt read-table.ended (read-table.clauses 𝓤 H A at-mem run) to-records w₂ (λ u₂ rs.
-        move ! (3 ∷ []) $ heard ! (rs .1 .1 .0 ≡ recordsFrom xs (8 + 8 * length ys) (length ts)) (λ e₂. use1 W (‵ (flft κ₀ q₀) ⊛ (‵ (flft κ₂ q₂) ⊛ ‵ ftrue)) (id⊢ 𝓤 _) $ split ! $ move ! (1 ∷ []) $ split ! $
+        move ! (3 ∷ []) $ heard ! (rs .1 .1 .0 ≡ recordsFrom xs (wordPlace (length ys)) (length ts)) (λ e₂. use1 W (‵ (flft κ₀ q₀) ⊛ (‵ (flft κ₂ q₂) ⊛ ‵ ftrue)) (id⊢ 𝓤 _) $ split ! $ move ! (1 ∷ []) $ split ! $
         move ! (4 ∷ []) $ fsplit ! $ move ! (1 ∷ []) $ fsplit ! $ move ! (1 ∷ []) $ fsplit ! $ fsplit ! $ move ! (1 ∷ []) $ feqL ! (λ l₂. move ! (7 ∷ []) $ result-unit ! w₂ $
         move ! (7 ∷ 0 ∷ 6 ∷ 8 ∷ 4 ∷ []) $
         -- [the last words; the last records; the three tokens; …; _12; …], with _i at 9 + 2 · (12 − i)
@@ -171,8 +173,8 @@ module _ {M : Type 1} (𝓤 : URA M) (H : Heap 𝓤) (A : Atoms 𝓤) (W : Given
         returns ! (look ! 33 refl) $ frees-local ! 33 refl refl $ frees-local ! 31 refl refl $ frees-local ! 29 refl refl $ frees-local ! 27 refl refl $ frees-local ! 25 refl refl $ frees-local ! 23 refl refl $ frees-local ! 21 refl refl $ frees-local ! 19 refl refl $ frees-local ! 17 refl refl $ frees-local ! 15 refl refl $ frees-local ! 13 refl refl $ frees-local ! 11 refl refl $ frees-local ! 9 refl refl $ free0 ! $
         keep ! (0 ∷ 1 ∷ 2 ∷ 3 ∷ 4 ∷ []) $ by ! (exits 0 (lit< tt) (zs .1 .0) (rs .1 .1 .0) (read-done xs ys ts n checked none (zs .1 .0) (rs .1 .1 .0) e₁ e₂) l₁ l₂)))))))))))))))))))))))))))
 
-read-meets : {M : Type 1} (𝓤 : URA M) (H : Heap 𝓤) (A : Atoms 𝓤) (W : Given 𝓤 H A) (at-mem : Memory → SProp 𝓤) (run : Routine → Fun 𝓤) (𝓣 : Tables 𝓤 H) → Triple 𝓤 (𝓣 .C #whole·read-refusal) (Refusal 𝓤 H A at-mem run)
-    → Triple 𝓤 (𝓣 .C #whole·read-strip) (Words 𝓤 H A at-mem run) → Triple 𝓤 (𝓣 .C #whole·read-table) (Records 𝓤 H A at-mem run) → Meets 𝓤 H A read.signature (WpFn 𝓤 H (𝓣 .C) (𝓣 .Λ) code.function) (read.spec 𝓤 H A at-mem run)
+read-meets : {M : Type 1} (𝓤 : URA M) (H : Heap 𝓤) (A : Atoms 𝓤) (W : Given 𝓤 H A) (at-mem : Memory → SProp 𝓤) (run : Routine → Fun 𝓤) (𝓣 : Tables 𝓤 H) → Triple 𝓤 (𝓣 .C #pieces·read-refusal) (Refusal 𝓤 H A at-mem run)
+    → Triple 𝓤 (𝓣 .C #pieces·read-strip) (Words 𝓤 H A at-mem run) → Triple 𝓤 (𝓣 .C #whole·read-table) (Records 𝓤 H A at-mem run) → Meets 𝓤 H A read.signature (WpFn 𝓤 H (𝓣 .C) (𝓣 .Λ) code.function) (read.spec 𝓤 H A at-mem run)
 read-meets 𝓤 H A W at-mem run 𝓣 known-refusal known-words known-records =
     walk-meets 𝓤 H A read.ended stayed W (goes-dropped 𝓤 H A W 3 (shrSliceOf (0 ∷ []) tt (plain (λ _. u8))) yes (λ κs x f. refl), (goes-gave-slice 𝓤 H A W 3 1 tt (plain (λ _. u64)), (goes-gave-slice 𝓤 H A W 3 2 tt (plain (λ _. R.the-row)), tt))) (read.clauses 𝓤 H A at-mem run) (WpFn 𝓤 H (𝓣 .C) (𝓣 .Λ) code.function) (WpFn-mono 𝓤 H (W .laws) 𝓣 code.function)
     (walked 𝓤 H A read.ended stayed (read.clauses 𝓤 H A at-mem run) (WpFn 𝓤 H (𝓣 .C) (𝓣 .Λ) code.function)
@@ -185,6 +187,6 @@ read-spec 𝓤 H 𝓜 𝓖 𝓡 =
     entered 𝓤 H (tripleOf 𝓤 H (𝓖 .A) read.signature (read.spec 𝓤 H (𝓖 .A) (𝓜 .mem) (𝓡 .run)))
     (tables 𝓤 H 𝓜 𝓡 code.env .C) (tables 𝓤 H 𝓜 𝓡 code.env .Λ) #whole·read code.function (code.unfolded 𝓤 H 𝓜 𝓡)
     (read-meets 𝓤 H (𝓖 .A) (givenOf 𝓤 H 𝓜 𝓖) (𝓜 .mem) (𝓡 .run) (tablesOf 𝓤 H 𝓜 (tables 𝓤 H 𝓜 𝓡 code.env))
-    (cited 𝓤 H (Refusal 𝓤 H (𝓖 .A) (𝓜 .mem) (𝓡 .run)) 𝓜 𝓡 code.env #whole·read-refusal read-refusal-def.routine code.calls-whole·reading·read-refusal (read-refusal-thm.met 𝓤 H 𝓜 𝓖 𝓡))
-    (cited 𝓤 H (Words 𝓤 H (𝓖 .A) (𝓜 .mem) (𝓡 .run)) 𝓜 𝓡 code.env #whole·read-strip read-strip-def.routine code.calls-whole·reading·read-strip (read-strip-thm.met 𝓤 H 𝓜 𝓖 𝓡))
+    (cited 𝓤 H (Refusal 𝓤 H (𝓖 .A) (𝓜 .mem) (𝓡 .run)) 𝓜 𝓡 code.env #pieces·read-refusal read-refusal-def.routine code.calls-pieces·reading·read-refusal (read-refusal-thm.met 𝓤 H 𝓜 𝓖 𝓡))
+    (cited 𝓤 H (Words 𝓤 H (𝓖 .A) (𝓜 .mem) (𝓡 .run)) 𝓜 𝓡 code.env #pieces·read-strip read-strip-def.routine code.calls-pieces·reading·read-strip (read-strip-thm.met 𝓤 H 𝓜 𝓖 𝓡))
     (cited 𝓤 H (Records 𝓤 H (𝓖 .A) (𝓜 .mem) (𝓡 .run)) 𝓜 𝓡 code.env #whole·read-table read-table-def.routine code.calls-whole·read-table (read-table-thm.met 𝓤 H 𝓜 𝓖 𝓡)))

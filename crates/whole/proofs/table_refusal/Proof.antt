@@ -20,12 +20,13 @@ use Rattle.party.proofs.Record as R
 use Rattle.party.proofs.Record.Laws as R′
 use Rattle.step.specs.Step.{maxOf}
 use Rattle.table.proofs.Machine.{recordSize, machine, IsRecord, record-typed}
-use Rattle.whole.specs.Whole.{allBelow, isValidIn}
-use Rattle.whole.proofs.Below.{foundBy, found-fits, one-more-refused}
-use Rattle.whole.proofs.writing.next_refusal as next-refusal
-use Rattle.whole.proofs.writing.next_refusal.Symbol as next-refusal-def
-use Rattle.whole.proofs.writing.next_refusal.Symbol.{name as #whole·next-refusal}
-use Rattle.whole.proofs.writing.next_refusal.Met as next-refusal-thm
+use Rattle.pieces.specs.Pieces.{allBelow}
+use Rattle.whole.specs.Whole.{isValidIn}
+use Rattle.whole.proofs.Found.{foundBy, found-fits, one-more-refused}
+use Rattle.pieces.proofs.writing.next_refusal as next-refusal
+use Rattle.pieces.proofs.writing.next_refusal.Symbol as next-refusal-def
+use Rattle.pieces.proofs.writing.next_refusal.Symbol.{name as #pieces·next-refusal}
+use Rattle.pieces.proofs.writing.next_refusal.Met as next-refusal-thm
 use Rattle.whole.proofs.table_refusal.Key.{name as #whole·table-refusal}
 use Rattle.whole.proofs.table_refusal as table-refusal
 use Rattle.whole.proofs.table_refusal.Statement as stated
@@ -82,7 +83,7 @@ module _ {M : Type 1} (𝓤 : URA M) (H : Heap 𝓤) (A : Atoms 𝓤) (W : Given
       nothing ! $ move ! (1 ∷ 0 ∷ []) $ join ! $ frame ! $ nothing ! $ nothing ! $ fjoin ! $ with-usize ! n n-fits $
       owned ! u32 (Is u32) (uint-makes 𝓤 H A W w32) m _ (refl, m-fits) $ move ! (1 ∷ 0 ∷ []) $ done !
 
-  module _ (𝓣 : Tables 𝓤 H) (known : Triple 𝓤 (𝓣 .C #whole·next-refusal) (Next 𝓤 H A at-mem run)) where
+  module _ (𝓣 : Tables 𝓤 H) (known : Triple 𝓤 (𝓣 .C #pieces·next-refusal) (Next 𝓤 H A at-mem run)) where
     abbrev C : Calls 𝓤 H
     C = 𝓣 .C
 
@@ -147,7 +148,7 @@ module _ {M : Type 1} (𝓤 : URA M) (H : Heap 𝓤) (A : Atoms 𝓤) (W : Given
         assigns ! (of-opd ! (lit ! tt)) (from ! (stop !)) (init ! 8 refl (tt, record { fits = lit< tt })) $
         move ! (18 ∷ 19 ∷ []) $ first ! $ blocks ! $ loops ! 𝓣 (Nearer (length ts)) (nearer-wf (length ts)) (At l₀ l₁ l₂ l₃ l₄ l₅ l₆ l₇ l₈) (turns l₀ l₁ l₂ l₃ l₄ l₅ l₆ l₇ l₈) (0, zero-le))))))))))
 
-table-refusal-meets : {M : Type 1} (𝓤 : URA M) (H : Heap 𝓤) (A : Atoms 𝓤) (W : Given 𝓤 H A) (at-mem : Memory → SProp 𝓤) (run : Routine → Fun 𝓤) (𝓣 : Tables 𝓤 H) → Triple 𝓤 (𝓣 .C #whole·next-refusal) (Next 𝓤 H A at-mem run)
+table-refusal-meets : {M : Type 1} (𝓤 : URA M) (H : Heap 𝓤) (A : Atoms 𝓤) (W : Given 𝓤 H A) (at-mem : Memory → SProp 𝓤) (run : Routine → Fun 𝓤) (𝓣 : Tables 𝓤 H) → Triple 𝓤 (𝓣 .C #pieces·next-refusal) (Next 𝓤 H A at-mem run)
     → Meets 𝓤 H A table-refusal.signature (WpFn 𝓤 H (𝓣 .C) (𝓣 .Λ) code.function) (table-refusal.spec 𝓤 H A at-mem run)
 table-refusal-meets 𝓤 H A W at-mem run 𝓣 known =
     walk-meets 𝓤 H A table-refusal.ended stayed W (goes-none 𝓤 H A W 1 (λ _. usize) yes (λ κs x f. refl), (goes-dropped 𝓤 H A W 1 (shrSliceOf (0 ∷ []) tt (plain (λ _. R.the-row))) yes (λ κs x f. refl), tt)) (table-refusal.clauses 𝓤 H A at-mem run) (WpFn 𝓤 H (𝓣 .C) (𝓣 .Λ) code.function) (WpFn-mono 𝓤 H (W .laws) 𝓣 code.function)
@@ -161,4 +162,4 @@ table-refusal-spec 𝓤 H 𝓜 𝓖 𝓡 =
     entered 𝓤 H (tripleOf 𝓤 H (𝓖 .A) table-refusal.signature (table-refusal.spec 𝓤 H (𝓖 .A) (𝓜 .mem) (𝓡 .run)))
     (tables 𝓤 H 𝓜 𝓡 code.env .C) (tables 𝓤 H 𝓜 𝓡 code.env .Λ) #whole·table-refusal code.function (code.unfolded 𝓤 H 𝓜 𝓡)
     (table-refusal-meets 𝓤 H (𝓖 .A) (givenOf 𝓤 H 𝓜 𝓖) (𝓜 .mem) (𝓡 .run) (tablesOf 𝓤 H 𝓜 (tables 𝓤 H 𝓜 𝓡 code.env))
-    (cited 𝓤 H (Next 𝓤 H (𝓖 .A) (𝓜 .mem) (𝓡 .run)) 𝓜 𝓡 code.env #whole·next-refusal next-refusal-def.routine code.calls-whole·writing·next-refusal (next-refusal-thm.met 𝓤 H 𝓜 𝓖 𝓡)))
+    (cited 𝓤 H (Next 𝓤 H (𝓖 .A) (𝓜 .mem) (𝓡 .run)) 𝓜 𝓡 code.env #pieces·next-refusal next-refusal-def.routine code.calls-pieces·writing·next-refusal (next-refusal-thm.met 𝓤 H 𝓜 𝓖 𝓡)))

@@ -16,22 +16,24 @@ use Rattle.logic.specs.Pick.{pick}
 use Rattle.party.specs.declared.Record.{Record}
 use Rattle.party.proofs.Record as R
 use Rattle.step.specs.Step.{maxOf}
+use Rattle.image.specs.Format.{wordPlace}
 use Rattle.image.specs.Spelling.{wordBytes}
 use Rattle.image.specs.Calls.{headerBytes}
-use Rattle.whole.specs.Whole.{allBelow, sizesAgree, isValidIn, tableBytes, WritePromise}
+use Rattle.pieces.specs.Pieces.{allBelow, sizesAgree}
+use Rattle.whole.specs.Whole.{isValidIn, tableBytes, WritePromise}
 use Rattle.whole.proofs.Promised.{sizes-refused, records-refused, write-done, words-within, front-inside, table-inside}
-use Rattle.whole.proofs.writing.sizes_refusal as sizes-refusal
-use Rattle.whole.proofs.writing.sizes_refusal.Symbol as sizes-refusal-def
-use Rattle.whole.proofs.writing.sizes_refusal.Symbol.{name as #whole·sizes-refusal}
-use Rattle.whole.proofs.writing.sizes_refusal.Met as sizes-refusal-thm
+use Rattle.pieces.proofs.writing.sizes_refusal as sizes-refusal
+use Rattle.pieces.proofs.writing.sizes_refusal.Symbol as sizes-refusal-def
+use Rattle.pieces.proofs.writing.sizes_refusal.Symbol.{name as #pieces·sizes-refusal}
+use Rattle.pieces.proofs.writing.sizes_refusal.Met as sizes-refusal-thm
 use Rattle.whole.proofs.table_refusal as table-refusal
 use Rattle.whole.proofs.table_refusal.Symbol as table-refusal-def
 use Rattle.whole.proofs.table_refusal.Symbol.{name as #whole·table-refusal}
 use Rattle.whole.proofs.table_refusal.Met as table-refusal-thm
-use Rattle.whole.proofs.writing.write_front as write-front
-use Rattle.whole.proofs.writing.write_front.Symbol as write-front-def
-use Rattle.whole.proofs.writing.write_front.Symbol.{name as #whole·write-front}
-use Rattle.whole.proofs.writing.write_front.Met as write-front-thm
+use Rattle.pieces.proofs.writing.write_front as write-front
+use Rattle.pieces.proofs.writing.write_front.Symbol as write-front-def
+use Rattle.pieces.proofs.writing.write_front.Symbol.{name as #pieces·write-front}
+use Rattle.pieces.proofs.writing.write_front.Met as write-front-thm
 use Rattle.whole.proofs.write_table as write-table
 use Rattle.whole.proofs.write_table.Symbol as write-table-def
 use Rattle.whole.proofs.write_table.Symbol.{name as #whole·write-table}
@@ -113,7 +115,7 @@ module _ {M : Type 1} (𝓤 : URA M) (H : Heap 𝓤) (A : Atoms 𝓤) (W : Given
   abbrev to-front : ℕ → GName → Front 𝓤 H A at-mem run .Ghost
   to-front ν δ = (((ν ∷ [], (κ₁, tt)), (fullShare, (q₁, tt)), tt, (image δ xs, (strip, (length ts, tt))), (image-val ∷ [], (strip-val ∷ [], (vint w64 (length ts) ∷ [], tt)))), tt)
 
-  goes-front : (ν : ℕ) (δ : GName) → (8 + 8 * length ys ≤ length xs) × ((2 ≤ length ys) × ((length ys ≤ 4096) × (length ts ≤ 16)))
+  goes-front : (ν : ℕ) (δ : GName) → (wordPlace (length ys) ≤ length xs) × ((2 ≤ length ys) × ((length ys ≤ 4096) × (length ts ≤ 16)))
       → ent 𝓤 (sep 𝓤 (sem 𝓤 H A (MutSlice (named 0) (ν ∷ []) u8 .own (image δ xs) (image-val ∷ []))) (sep 𝓤 (A .lft (ν ∷ []) fullShare) (sep 𝓤 (sem 𝓤 H A (ShrSlice (named 1) κ₁ u64 .own strip (strip-val ∷ []))) (A .lft κ₁ q₁)))) (Front 𝓤 H A at-mem run .pre (to-front ν δ))
   goes-front ν δ inside =
       qed W (‵ (MutSlice (named 0) (ν ∷ []) u8 .own (image δ xs) (image-val ∷ [])) ∷ ‵ (flft (ν ∷ []) fullShare) ∷ ‵ (ShrSlice (named 1) κ₁ u64 .own strip (strip-val ∷ [])) ∷ ‵ (flft κ₁ q₁) ∷ []) ∵ says ! inside $
@@ -122,7 +124,7 @@ module _ {M : Type 1} (𝓤 : URA M) (H : Heap 𝓤) (A : Atoms 𝓤) (W : Given
   abbrev to-records : List ℕ → Records 𝓤 H A at-mem run .Ghost
   to-records zs = (((κ₀, (κ₂, tt)), (q₀, (q₂, tt)), tt, (image γ₀ zs, (length ys, (table, tt))), (image-val ∷ [], (vint w64 (length ys) ∷ [], (table-val ∷ [], tt)))), tt)
 
-  goes-records : (zs : List ℕ) → 8 + 8 * length ys + 32 * length ts ≤ length zs
+  goes-records : (zs : List ℕ) → wordPlace (length ys) + 32 * length ts ≤ length zs
       → ent 𝓤 (sep 𝓤 (sem 𝓤 H A (MutSlice (named 0) κ₀ u8 .own (image γ₀ zs) (image-val ∷ []))) (sep 𝓤 (A .lft κ₀ q₀) (sep 𝓤 (sem 𝓤 H A (ShrSlice (named 1) κ₂ R.the-row .own table (table-val ∷ []))) (A .lft κ₂ q₂)))) (Records 𝓤 H A at-mem run .pre (to-records zs))
   goes-records zs inside =
       qed W (‵ (MutSlice (named 0) κ₀ u8 .own (image γ₀ zs) (image-val ∷ [])) ∷ ‵ (flft κ₀ q₀) ∷ ‵ (ShrSlice (named 1) κ₂ R.the-row .own table (table-val ∷ [])) ∷ ‵ (flft κ₂ q₂) ∷ []) ∵ says ! inside $
@@ -137,8 +139,8 @@ module _ {M : Type 1} (𝓤 : URA M) (H : Heap 𝓤) (A : Atoms 𝓤) (W : Given
       nothing ! $ nothing ! $ fjoin ! $ nothing ! $ fjoin ! $ move ! (1 ∷ 0 ∷ []) $ fjoin ! $
       owned ! u32 (Is u32) (uint-makes 𝓤 H A W w32) n _ (refl, n-fits) $ move ! (1 ∷ 0 ∷ []) $ done !
 
-  module _ (C : Calls 𝓤 H) (Λ : Loops 𝓤 H) (fm : FmC 𝓤 H (W .laws) C) (known-sizes : Triple 𝓤 (C #whole·sizes-refusal) (Sizes 𝓤 H A at-mem run)) (known-valid : Triple 𝓤 (C #whole·table-refusal) (Valid 𝓤 H A at-mem run))
-      (known-front : Triple 𝓤 (C #whole·write-front) (Front 𝓤 H A at-mem run)) (known-records : Triple 𝓤 (C #whole·write-table) (Records 𝓤 H A at-mem run)) where
+  module _ (C : Calls 𝓤 H) (Λ : Loops 𝓤 H) (fm : FmC 𝓤 H (W .laws) C) (known-sizes : Triple 𝓤 (C #pieces·sizes-refusal) (Sizes 𝓤 H A at-mem run)) (known-valid : Triple 𝓤 (C #whole·table-refusal) (Valid 𝓤 H A at-mem run))
+      (known-front : Triple 𝓤 (C #pieces·write-front) (Front 𝓤 H A at-mem run)) (known-records : Triple 𝓤 (C #whole·write-table) (Records 𝓤 H A at-mem run)) where
     walk : ent 𝓤 (onEntry 𝓤 H A write.signature (κ₀, (κ₁, (κ₂, tt))) (q₀, (q₁, (q₂, tt))) a vals) (WpFn 𝓤 H C Λ code.function (image-val ∷ strip-val ∷ table-val ∷ []) Post)
     walk =
         qed W ((‵ (flft κ₀ q₀) ⊛ (‵ (flft κ₁ q₁) ⊛ (‵ (flft κ₂ q₂) ⊛ ‵ ftrue))) ∷ ‵ (owns (MutSlice (named 0) κ₀ u8 ∷ ShrSlice (named 1) κ₁ u64 ∷ ShrSlice (named 2) κ₂ R.the-row ∷ []) a vals) ∷ []) ∵
@@ -187,7 +189,7 @@ module _ {M : Type 1} (𝓤 : URA M) (H : Heap 𝓤) (A : Atoms 𝓤) (W : Given
         -- [the call; what the holder keeps; the table's token; the table; _14; …], with _i at 4 + 2 · (14 − i)
         calls-at ! fm (Front 𝓤 H A at-mem run) known-front (to-front ν δ) (and-then ! (load ! (from ! (stop !)) (look ! 8 refl)) (and-then ! (load ! (from ! (stop !)) (look ! 28 refl)) (and-then ! (load ! (from ! (stop !)) (look ! 20 refl)) (no-more !)))) (λ w₂.
         after-call ! tt write-front.ended (write-front.clauses 𝓤 H A at-mem run) (to-front ν δ) w₂ (λ u₂ zs.
-        move ! (3 ∷ []) $ heard ! (zs .0 ≡ sets (sets xs 0 (headerBytes (maxOf (length ys)) (length ts))) 8 (wordBytes ys)) (λ front. use1 W (‵ (flft (ν ∷ []) fullShare) ⊛ (‵ (flft κ₁ q₁) ⊛ ‵ ftrue)) (id⊢ 𝓤 _) $ split ! $ move ! (1 ∷ []) $ split ! $
+        move ! (3 ∷ []) $ heard ! (zs .0 ≡ sets (sets xs 0 (headerBytes (maxOf (length ys)) (length ts))) (wordPlace 0) (wordBytes ys)) (λ front. use1 W (‵ (flft (ν ∷ []) fullShare) ⊛ (‵ (flft κ₁ q₁) ⊛ ‵ ftrue)) (id⊢ 𝓤 _) $ split ! $ move ! (1 ∷ []) $ split ! $
         move ! (4 ∷ []) $ fsplit ! $ fsplit ! $ move ! (1 ∷ []) $ feqL ! (λ l. move ! (5 ∷ []) $ result-unit ! w₂ $
         -- [the last bytes; …; the strip's token; …; the call's token; what the holder keeps; the table's token; the table; _14; …], with _i at 8 + 2 · (14 − i)
         land ! (from ! (stop !)) (init ! 16 refl (tt, tt)) $
@@ -201,7 +203,7 @@ module _ {M : Type 1} (𝓤 : URA M) (H : Heap 𝓤) (A : Atoms 𝓤) (W : Given
         -- [the call; the strip's token; _14; …], with _i at 2 + 2 · (14 − i)
         calls-at ! fm (Records 𝓤 H A at-mem run) known-records (to-records (zs .0)) (and-then ! (load ! (from ! (stop !)) (look ! 2 refl)) (and-then ! (load ! (from ! (stop !)) (look ! 16 refl)) (and-then ! (load ! (from ! (stop !)) (look ! 24 refl)) (no-more !)))) (λ w₃.
         after-call ! tt write-table.ended (write-table.clauses 𝓤 H A at-mem run) (to-records (zs .0)) w₃ (λ u₃ bs.
-        move ! (3 ∷ []) $ heard ! (bs .0 ≡ sets (zs .0) (8 + 8 * length ys) (tableBytes ts)) (λ last. use1 W (‵ (flft κ₀ q₀) ⊛ (‵ (flft κ₂ q₂) ⊛ ‵ ftrue)) (id⊢ 𝓤 _) $ split ! $ move ! (1 ∷ []) $ split ! $
+        move ! (3 ∷ []) $ heard ! (bs .0 ≡ sets (zs .0) (wordPlace (length ys)) (tableBytes ts)) (λ last. use1 W (‵ (flft κ₀ q₀) ⊛ (‵ (flft κ₂ q₂) ⊛ ‵ ftrue)) (id⊢ 𝓤 _) $ split ! $ move ! (1 ∷ []) $ split ! $
         move ! (4 ∷ []) $ fsplit ! $ fsplit ! $ move ! (1 ∷ []) $ feqL ! (λ l₃. move ! (5 ∷ []) $ result-unit ! w₃ $
         move ! (0 ∷ 4 ∷ 5 ∷ 2 ∷ []) $
         -- [the last bytes; the three tokens; …; _14; …], with _i at 6 + 2 · (14 − i)
@@ -210,8 +212,8 @@ module _ {M : Type 1} (𝓤 : URA M) (H : Heap 𝓤) (A : Atoms 𝓤) (W : Given
         returns ! (look ! 34 refl) $ frees-local ! 34 refl refl $ frees-local ! 32 refl refl $ frees-local ! 30 refl refl $ frees-local ! 28 refl refl $ frees-local ! 26 refl refl $ frees-local ! 24 refl refl $ frees-local ! 22 refl refl $ frees-local ! 20 refl refl $ frees-local ! 18 refl refl $ frees-local ! 16 refl refl $ frees-local ! 14 refl refl $ frees-local ! 12 refl refl $ frees-local ! 10 refl refl $ frees-local ! 8 refl refl $ frees-local ! 6 refl refl $ free0 ! $
         keep ! (0 ∷ 1 ∷ 2 ∷ 3 ∷ []) $ by ! (exits 0 (lit< tt) (bs .0) (write-done xs ys ts n checked none m looked zero (zs .0) (bs .0) front last) (l₃ ∙ l)))))))))))))))))))))))))))))))))))
 
-write-meets : {M : Type 1} (𝓤 : URA M) (H : Heap 𝓤) (A : Atoms 𝓤) (W : Given 𝓤 H A) (at-mem : Memory → SProp 𝓤) (run : Routine → Fun 𝓤) (𝓣 : Tables 𝓤 H) → Triple 𝓤 (𝓣 .C #whole·sizes-refusal) (Sizes 𝓤 H A at-mem run) → Triple 𝓤 (𝓣 .C #whole·table-refusal) (Valid 𝓤 H A at-mem run)
-    → Triple 𝓤 (𝓣 .C #whole·write-front) (Front 𝓤 H A at-mem run) → Triple 𝓤 (𝓣 .C #whole·write-table) (Records 𝓤 H A at-mem run) → Meets 𝓤 H A write.signature (WpFn 𝓤 H (𝓣 .C) (𝓣 .Λ) code.function) (write.spec 𝓤 H A at-mem run)
+write-meets : {M : Type 1} (𝓤 : URA M) (H : Heap 𝓤) (A : Atoms 𝓤) (W : Given 𝓤 H A) (at-mem : Memory → SProp 𝓤) (run : Routine → Fun 𝓤) (𝓣 : Tables 𝓤 H) → Triple 𝓤 (𝓣 .C #pieces·sizes-refusal) (Sizes 𝓤 H A at-mem run) → Triple 𝓤 (𝓣 .C #whole·table-refusal) (Valid 𝓤 H A at-mem run)
+    → Triple 𝓤 (𝓣 .C #pieces·write-front) (Front 𝓤 H A at-mem run) → Triple 𝓤 (𝓣 .C #whole·write-table) (Records 𝓤 H A at-mem run) → Meets 𝓤 H A write.signature (WpFn 𝓤 H (𝓣 .C) (𝓣 .Λ) code.function) (write.spec 𝓤 H A at-mem run)
 write-meets 𝓤 H A W at-mem run 𝓣 known-sizes known-valid known-front known-records =
     walk-meets 𝓤 H A write.ended stayed W (goes-gave-slice 𝓤 H A W 3 0 tt (plain (λ _. u8)), (goes-dropped 𝓤 H A W 3 (shrSliceOf (1 ∷ []) tt (plain (λ _. u64))) yes (λ κs x f. refl), (goes-dropped 𝓤 H A W 3 (shrSliceOf (2 ∷ []) tt (plain (λ _. R.the-row))) yes (λ κs x f. refl), tt))) (write.clauses 𝓤 H A at-mem run) (WpFn 𝓤 H (𝓣 .C) (𝓣 .Λ) code.function) (WpFn-mono 𝓤 H (W .laws) 𝓣 code.function)
     (walked 𝓤 H A write.ended stayed (write.clauses 𝓤 H A at-mem run) (WpFn 𝓤 H (𝓣 .C) (𝓣 .Λ) code.function)
@@ -224,7 +226,7 @@ write-spec 𝓤 H 𝓜 𝓖 𝓡 =
     entered 𝓤 H (tripleOf 𝓤 H (𝓖 .A) write.signature (write.spec 𝓤 H (𝓖 .A) (𝓜 .mem) (𝓡 .run)))
     (tables 𝓤 H 𝓜 𝓡 code.env .C) (tables 𝓤 H 𝓜 𝓡 code.env .Λ) #whole·write code.function (code.unfolded 𝓤 H 𝓜 𝓡)
     (write-meets 𝓤 H (𝓖 .A) (givenOf 𝓤 H 𝓜 𝓖) (𝓜 .mem) (𝓡 .run) (tablesOf 𝓤 H 𝓜 (tables 𝓤 H 𝓜 𝓡 code.env))
-    (cited 𝓤 H (Sizes 𝓤 H (𝓖 .A) (𝓜 .mem) (𝓡 .run)) 𝓜 𝓡 code.env #whole·sizes-refusal sizes-refusal-def.routine code.calls-whole·writing·sizes-refusal (sizes-refusal-thm.met 𝓤 H 𝓜 𝓖 𝓡))
+    (cited 𝓤 H (Sizes 𝓤 H (𝓖 .A) (𝓜 .mem) (𝓡 .run)) 𝓜 𝓡 code.env #pieces·sizes-refusal sizes-refusal-def.routine code.calls-pieces·writing·sizes-refusal (sizes-refusal-thm.met 𝓤 H 𝓜 𝓖 𝓡))
     (cited 𝓤 H (Valid 𝓤 H (𝓖 .A) (𝓜 .mem) (𝓡 .run)) 𝓜 𝓡 code.env #whole·table-refusal table-refusal-def.routine code.calls-whole·table-refusal (table-refusal-thm.met 𝓤 H 𝓜 𝓖 𝓡))
-    (cited 𝓤 H (Front 𝓤 H (𝓖 .A) (𝓜 .mem) (𝓡 .run)) 𝓜 𝓡 code.env #whole·write-front write-front-def.routine code.calls-whole·writing·write-front (write-front-thm.met 𝓤 H 𝓜 𝓖 𝓡))
+    (cited 𝓤 H (Front 𝓤 H (𝓖 .A) (𝓜 .mem) (𝓡 .run)) 𝓜 𝓡 code.env #pieces·write-front write-front-def.routine code.calls-pieces·writing·write-front (write-front-thm.met 𝓤 H 𝓜 𝓖 𝓡))
     (cited 𝓤 H (Records 𝓤 H (𝓖 .A) (𝓜 .mem) (𝓡 .run)) 𝓜 𝓡 code.env #whole·write-table write-table-def.routine code.calls-whole·write-table (write-table-thm.met 𝓤 H 𝓜 𝓖 𝓡)))

@@ -1,5 +1,5 @@
 // What reading a whole image does without its table: the checks, the words, and one record by value.
-// Private to the crate, whose calls have checked the lengths: these ask that the bytes lie inside.
+// Public for the calls on whole images: past the checks, these ask that the bytes lie inside.
 use image::gate::read_header;
 use image::record::read_record;
 use little::number_8;
@@ -10,9 +10,9 @@ use step::table_fits;
 ghost use mathlib.Core.Path.{_≡_};
 ghost use Prim.Native.Nat.{_+_, _*_, _≤_};
 ghost use lib.ListN.{length};
-ghost use Rattle.image.specs.Format.{recordPlace, lengthOf};
+ghost use Rattle.image.specs.Format.{wordPlace, recordPlace, lengthOf};
 ghost use Rattle.image.specs.Spelling.{wordsFrom, recordAt};
-ghost use Rattle.whole.specs.Whole.{allBelow, lentFits, isSound, readRefusal};
+ghost use Rattle.pieces.specs.Pieces.{allBelow, lentFits, isSound, readRefusal};
 
 pub fn lent_fits(words: usize, parties: usize) -> bool
     ensures { λ t. ⌜ t ≡ lentFits words parties ⌝ }
@@ -41,7 +41,7 @@ fn are_sound(image: &[u8], max: u16, parties: u8) -> bool
     all
 }
 
-// All checks, before anything is written.
+// All checks of reading, before anything is written.
 pub fn read_refusal(image: &[u8], words: usize, parties: usize) -> u32
     ensures { λ n. ⌜ n ≡ readRefusal (now (image .entry)) words parties ⌝ }
 {
@@ -61,10 +61,10 @@ pub fn read_refusal(image: &[u8], words: usize, parties: usize) -> u32
     0
 }
 
-// The words. Read calls it, past its checks.
+// The words. Public for read, which calls it past its checks.
 pub fn read_strip(image: &[u8], strip: &mut [u64])
-    requires { ⌜ 8 + 8 * length (now strip) ≤ length (now image) ⌝ }
-    ensures { λ _. ⌜ now (strip .exit) ≡ wordsFrom (now (image .entry)) 8 (length (now (strip .entry))) ⌝ }
+    requires { ⌜ wordPlace (length (now strip)) ≤ length (now image) ⌝ }
+    ensures { λ _. ⌜ now (strip .exit) ≡ wordsFrom (now (image .entry)) (wordPlace 0) (length (now (strip .entry))) ⌝ }
 {
     let mut i: usize = 0;
     while i < strip.len() {
@@ -73,10 +73,10 @@ pub fn read_strip(image: &[u8], strip: &mut [u64])
     }
 }
 
-// A party's record. Read calls it, past its checks.
+// A party's record, behind so many words. Public for read, which calls it past its checks.
 pub fn record_in(image: &[u8], words: usize, party: usize) -> Record
-    requires { ⌜ 8 + 8 * words + 32 * party + 32 ≤ length (now image) ⌝ }
-    ensures { λ r. ⌜ r ≡ recordAt (now (image .entry)) (8 + 8 * words + 32 * party) ⌝ }
+    requires { ⌜ wordPlace words + 32 * party + 32 ≤ length (now image) ⌝ }
+    ensures { λ r. ⌜ r ≡ recordAt (now (image .entry)) (wordPlace words + 32 * party) ⌝ }
 {
     read_record(image, 8 + 8 * words + 32 * party)
 }

@@ -1,6 +1,6 @@
 use borrow.Author.Needs.{needs}
-use Rattle.whole.proofs.reading.is_sound.Statement.{statement}
-use Rattle.whole.proofs.reading.is_sound.Tie as tie
+use Rattle.pieces.proofs.reading.is_sound.Statement.{statement}
+use Rattle.pieces.proofs.reading.is_sound.Tie as tie
 
 add-at : tie.Need-add-at
 add-at c = search needs

@@ -1,14 +1,13 @@
 -- A test that holds of every number below a count.
-use Prim.Native.Nat.{ℕ, zero, suc, _+_, _<_, _^_}
-use mathlib.Core.Path.{_≡_, refl, sym}
+use Prim.Native.Nat.{ℕ, zero, suc, _+_, _<_}
+use mathlib.Core.Path.{_≡_, refl}
 use mathlib.Core.Bool.{Bool, true, false, _&&_}
-use lib.Dec.{eqb, lit<}
+use lib.Dec.{eqb}
 use borrow.Author.Tests.{eqb-true, eqb-false}
 use native.Mathlib.Numerals.{add-one}
 use native.Mathlib.Omega.{arith}
-use Rattle.logic.specs.Pick.{pick}
 use Rattle.logic.proofs.Bools.{both}
-use Rattle.whole.specs.Whole.{allBelow}
+use Rattle.pieces.specs.Pieces.{allBelow}
 
 pub one-more-tested : (test : ℕ → Bool) (i : ℕ) → allBelow test i && test i ≡ allBelow test (i + 1)
 unfolding allBelow
@@ -31,21 +30,3 @@ unfolding allBelow
 all-of-each test zero each = refl
 all-of-each test (suc count) each =
     rw (all-of-each test count (λ i h. each i (omega arith)), each count (omega arith)) refl
-
--- 4 from the first that fails on
-abbrev pub foundBy : Bool → ℕ
-foundBy all = pick all 0 4
-
-pub found-fits : (all : Bool) → foundBy all < 2 ^ 32
-found-fits true = lit< tt
-found-fits false = lit< tt
-
-pub one-more-refused : (test : ℕ → Bool) (i : ℕ)
-    → pick (test i) (foundBy (allBelow test i)) 4 ≡ foundBy (allBelow test (i + 1))
-one-more-refused test i = rw (sym (one-more-tested test i)) (go (allBelow test i) (test i))
-  where
-    go : (all this : Bool) → pick this (foundBy all) 4 ≡ foundBy (all && this)
-    go true true = refl
-    go true false = refl
-    go false true = refl
-    go false false = refl

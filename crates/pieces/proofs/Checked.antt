@@ -1,19 +1,19 @@
--- The rungs of the checks of reading, and what is known where they pass; and those of writing.
+-- The rungs of the checks of reading, and what is known where they pass; and the sizes of what is written.
 use Prim.Native.Nat.{ℕ, _+_, _*_, _≤_}
 use mathlib.Core.Path.{_≡_, refl}
 use mathlib.Core.Bool.{true, false, not}
 use mathlib.Core.List.{List}
 use lib.ListN.{length}
 use lib.Dec.{eqb, leb}
-use borrow.Author.Tests.{eqb-true, leb-true, not-false, ne-eqb}
+use borrow.Author.Tests.{eqb-true, leb-true, le-leb, not-false, ne-eqb}
 use native.Mathlib.Omega.{arith}
 use Rattle.logic.proofs.Bools.{both, passed}
 use Rattle.step.specs.Step.{stripFits, maxOf}
 use Rattle.step.specs.Call.{tableFits}
-use Rattle.image.specs.Format.{lengthOf, maxAt, partiesAt, headerRefusal}
+use Rattle.image.specs.Format.{wordPlace, lengthOf, maxAt, partiesAt, headerRefusal}
 use Rattle.image.proofs.Sizes.{header-sized}
 use Rattle.image.proofs.Gated.{passed-number}
-use Rattle.whole.specs.Whole.{allBelow, lentFits, isSound, agrees, readRefusal, sizesAgree}
+use Rattle.pieces.specs.Pieces.{allBelow, lentFits, isSound, agrees, readRefusal, sizesAgree}
 
 -- a strip and a table that may be lent
 pub record Lent (words parties : ℕ) : Type 0 where
@@ -33,6 +33,10 @@ lent words parties e =
       some = leb-true 1 parties (table .0);
       few = leb-true parties 16 (table .1);
     }
+
+pub is-lent : (words parties : ℕ) → Lent words parties → lentFits words parties ≡ true
+is-lent words parties right =
+    rw (le-leb 3 words (right .least), le-leb words 4096 (right .most), le-leb 1 parties (right .some), le-leb parties 16 (right .few)) refl
 
 module _ (image : List ℕ) (words parties : ℕ) where
   pub refused-by-lent : lentFits words parties ≡ false → readRefusal image words parties ≡ 1
@@ -87,7 +91,7 @@ readable image words parties e =
 -- the sizes of one that is written
 pub record Writable (bytes words parties : ℕ) : Type 0 where
   pub lent-right : Lent words parties
-  pub exact : bytes ≡ 8 + 8 * words + 32 * parties
+  pub exact : bytes ≡ wordPlace words + 32 * parties
 
 pub writable : (bytes words parties : ℕ) → sizesAgree bytes words parties ≡ true → Writable bytes words parties
 writable bytes words parties e =
@@ -97,5 +101,5 @@ writable bytes words parties e =
     record { lent-right = right; exact = omega (arith, right .least, long) }
 
 -- the length that a strip and a table take
-pub length-taken : (words parties : ℕ) → lentFits words parties ≡ true → lengthOf (maxOf words) parties ≡ 8 + 8 * words + 32 * parties
+pub length-taken : (words parties : ℕ) → lentFits words parties ≡ true → lengthOf (maxOf words) parties ≡ wordPlace words + 32 * parties
 length-taken words parties e = let right = lent words parties e in omega (arith, right .least)

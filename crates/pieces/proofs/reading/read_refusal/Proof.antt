@@ -8,11 +8,11 @@ use borrow.Author.Tests.{not-true, not-false}
 use native.Mathlib.Omega.{arith}
 use Rattle.image.specs.Format.{maxAt, partiesAt, headerRefusal}
 use Rattle.image.proofs.Sizes.{header-sized}
-use Rattle.whole.specs.Whole.{allBelow, lentFits, isSound, agrees}
-use Rattle.whole.proofs.Checked.{refused-by-lent, refused-by-header, refused-by-lengths, refused-by-records, refused-by-none}
+use Rattle.pieces.specs.Pieces.{allBelow, lentFits, isSound, agrees}
+use Rattle.pieces.proofs.Checked.{refused-by-lent, refused-by-header, refused-by-lengths, refused-by-records, refused-by-none}
 use borrow.Author.Needs.{needs}
-use Rattle.whole.proofs.reading.read_refusal.Statement.{statement}
-use Rattle.whole.proofs.reading.read_refusal.Tie as tie
+use Rattle.pieces.proofs.reading.read_refusal.Statement.{statement}
+use Rattle.pieces.proofs.reading.read_refusal.Tie as tie
 
 -- what the call was handed, and what is known past each check
 abbrev image-of : tie.After-read-header → List ℕ

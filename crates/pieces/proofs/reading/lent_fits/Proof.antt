@@ -1,6 +1,6 @@
 use borrow.Author.Needs.{needs}
-use Rattle.whole.proofs.reading.lent_fits.Statement.{statement}
-use Rattle.whole.proofs.reading.lent_fits.Tie as tie
+use Rattle.pieces.proofs.reading.lent_fits.Statement.{statement}
+use Rattle.pieces.proofs.reading.lent_fits.Tie as tie
 
 strip-fits-requires : tie.Need-strip-fits-requires
 strip-fits-requires c κs = search needs

@@ -10,6 +10,7 @@ use native.Mathlib.Omega.{arith}
 use Rattle.party.specs.Record.{idle}
 use Rattle.party.specs.declared.Record.{Record}
 use Rattle.little.proofs.Runs.{whole-run}
+use Rattle.image.specs.Format.{wordPlace}
 use Rattle.image.specs.Spelling.{wordsFrom, recordsFrom}
 use Rattle.image.proofs.Parts.{Part, partsFrom, length-parts, part-at}
 use Rattle.image.proofs.Words.{wordPart, words-are-parts}
@@ -46,13 +47,13 @@ module _ {A : Type 0} (part : Part A) (past : A) (image : List ℕ) (at : ℕ) (
 
 -- the words of an image, and its records
 abbrev pub wordsTo : (image strip : List ℕ) → ℕ → List ℕ
-wordsTo image strip i = readTo wordPart 0 image 8 strip i
+wordsTo image strip i = readTo wordPart 0 image (wordPlace 0) strip i
 
 abbrev pub recordsTo : (image : List ℕ) (at : ℕ) (table : List Record) → ℕ → List Record
 recordsTo image at table i = readTo recordPart idle image at table i
 
-pub all-words-read : (image strip : List ℕ) (i : ℕ) → length strip ≤ i → wordsTo image strip i ≡ wordsFrom image 8 (length strip)
-all-words-read image strip i h = all-read wordPart 0 image 8 strip i h ∙ sym (words-are-parts (length strip) image 8)
+pub all-words-read : (image strip : List ℕ) (i : ℕ) → length strip ≤ i → wordsTo image strip i ≡ wordsFrom image (wordPlace 0) (length strip)
+all-words-read image strip i h = all-read wordPart 0 image (wordPlace 0) strip i h ∙ sym (words-are-parts (length strip) image (wordPlace 0))
 
 pub all-records-read : (image : List ℕ) (at : ℕ) (table : List Record) (i : ℕ) → length table ≤ i
     → recordsTo image at table i ≡ recordsFrom image at (length table)

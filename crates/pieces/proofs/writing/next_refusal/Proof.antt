@@ -1,6 +1,6 @@
 use borrow.Author.Needs.{needs}
-use Rattle.whole.proofs.writing.next_refusal.Statement.{statement}
-use Rattle.whole.proofs.writing.next_refusal.Tie as tie
+use Rattle.pieces.proofs.writing.next_refusal.Statement.{statement}
+use Rattle.pieces.proofs.writing.next_refusal.Tie as tie
 
 sub-is-valid : tie.Need-sub-is-valid
 sub-is-valid c = search needs

@@ -3,10 +3,10 @@ use mathlib.Core.Path.{_≡_, refl, _∙_, ap}
 use mathlib.Core.Bool.{Bool, _&&_}
 use denote.Ref.{now}
 use native.Mathlib.Omega.{arith}
-use Rattle.whole.specs.Whole.{allBelow, isSound}
-use Rattle.whole.proofs.Below.{one-more-tested}
-use Rattle.whole.proofs.reading.are_sound.Statement.{statement}
-use Rattle.whole.proofs.reading.are_sound.Tie as tie
+use Rattle.pieces.specs.Pieces.{allBelow, isSound}
+use Rattle.pieces.proofs.Below.{one-more-tested}
+use Rattle.pieces.proofs.reading.are_sound.Statement.{statement}
+use Rattle.pieces.proofs.reading.are_sound.Tie as tie
 
 abbrev Inv-loop : tie.InvT-loop
 Inv-loop image max parties all₀ i₀ all i = (i ≤ parties) × (all ≡ allBelow (isSound image max) i)

@@ -1,5 +1,5 @@
 // What writing a whole image does without its table: the sizes, the header and the words, and one record by value.
-// Private to the crate, whose calls have checked the lengths: these ask that the bytes lie inside.
+// Public for the calls on whole images: past the checks, these ask that the bytes lie inside.
 use crate::reading::lent_fits;
 use image::fresh::lay_header;
 use image::record::write_record;
@@ -15,10 +15,12 @@ ghost use lib.Seq.{sets};
 ghost use Rattle.logic.specs.Pick.{pick};
 ghost use Rattle.party.specs.Valid.{validOf};
 ghost use Rattle.step.specs.Step.{maxOf};
+ghost use Rattle.image.specs.Format.{wordPlace};
 ghost use Rattle.image.specs.Spelling.{wordBytes};
 ghost use Rattle.image.specs.Calls.{headerBytes};
-ghost use Rattle.whole.specs.Whole.{sizesAgree, partyBytes};
+ghost use Rattle.pieces.specs.Pieces.{sizesAgree, partyBytes};
 
+// The sizes alone: no byte is looked at.
 pub fn sizes_refusal(bytes: usize, words: usize, parties: usize) -> u32
     ensures { λ n. ⌜ n ≡ pick (not (sizesAgree bytes words parties)) 1 0 ⌝ }
 {
@@ -28,7 +30,7 @@ pub fn sizes_refusal(bytes: usize, words: usize, parties: usize) -> u32
     pick_u32(!(bytes == 8 + 8 * words + 32 * parties), 1, 0)
 }
 
-// The number so far, and 4 from the first record on that is not valid. Write calls it, past its checks of the sizes.
+// The number so far, and 4 from the first record on that is not valid. Public for write, which calls it past its check of the sizes.
 pub fn next_refusal(number: u32, words: usize, r: Record) -> u32
     requires { ⌜ (2 ≤ words) × (words ≤ 4096) ⌝ }
     ensures { λ n. ⌜ n ≡ pick (validOf (maxOf words) r) number 4 ⌝ }
@@ -37,8 +39,8 @@ pub fn next_refusal(number: u32, words: usize, r: Record) -> u32
 }
 
 fn write_words(image: &mut [u8], strip: &[u64])
-    requires { ⌜ 8 + 8 * length (now strip) ≤ length (now image) ⌝ }
-    ensures { λ _. ⌜ now (image .exit) ≡ sets (now (image .entry)) 8 (wordBytes (now (strip .entry))) ⌝ }
+    requires { ⌜ wordPlace (length (now strip)) ≤ length (now image) ⌝ }
+    ensures { λ _. ⌜ now (image .exit) ≡ sets (now (image .entry)) (wordPlace 0) (wordBytes (now (strip .entry))) ⌝ }
 {
     let mut i: usize = 0;
     while i < strip.len() {
@@ -47,19 +49,19 @@ fn write_words(image: &mut [u8], strip: &[u64])
     }
 }
 
-// The header and the words. Write calls it, past its checks.
+// The header and the words. Public for write, which calls it past its checks.
 pub fn write_front(image: &mut [u8], strip: &[u64], parties: usize)
-    requires { ⌜ (8 + 8 * length (now strip) ≤ length (now image)) × ((2 ≤ length (now strip)) × ((length (now strip) ≤ 4096) × (parties ≤ 16))) ⌝ }
-    ensures { λ _. ⌜ now (image .exit) ≡ sets (sets (now (image .entry)) 0 (headerBytes (maxOf (length (now (strip .entry)))) parties)) 8 (wordBytes (now (strip .entry))) ⌝ }
+    requires { ⌜ (wordPlace (length (now strip)) ≤ length (now image)) × ((2 ≤ length (now strip)) × ((length (now strip) ≤ 4096) × (parties ≤ 16))) ⌝ }
+    ensures { λ _. ⌜ now (image .exit) ≡ sets (sets (now (image .entry)) 0 (headerBytes (maxOf (length (now (strip .entry)))) parties)) (wordPlace 0) (wordBytes (now (strip .entry))) ⌝ }
 {
     lay_header(image, (strip.len() - 2) as u16, parties as u8);
     write_words(image, strip);
 }
 
-// A party's 32 bytes. Write calls it, past its checks.
+// A party's 32 bytes, behind so many words. Public for write, which calls it past its checks.
 pub fn write_party(image: &mut [u8], words: usize, party: usize, r: Record)
-    requires { ⌜ 8 + 8 * words + 32 * party + 32 ≤ length (now image) ⌝ }
-    ensures { λ _. ⌜ now (image .exit) ≡ sets (now (image .entry)) (8 + 8 * words + 32 * party) (partyBytes r) ⌝ }
+    requires { ⌜ wordPlace words + 32 * party + 32 ≤ length (now image) ⌝ }
+    ensures { λ _. ⌜ now (image .exit) ≡ sets (now (image .entry)) (wordPlace words + 32 * party) (partyBytes r) ⌝ }
 {
     let at = 8 + 8 * words + 32 * party;
     write_record(image, at, r);

@@ -4,10 +4,11 @@ use Prim.Native.Nat.{ℕ, _+_, _*_}
 use lib.Seq.{sets}
 use denote.Ref.{now}
 use Rattle.little.specs.Bytes.{bytesOf}
-use Rattle.whole.proofs.Laid.{party-laid}
+use Rattle.image.specs.Format.{wordPlace}
+use Rattle.pieces.proofs.PartyBytes.{party-laid}
 use borrow.Author.Needs.{needs}
-use Rattle.whole.proofs.writing.write_party.Statement.{statement}
-use Rattle.whole.proofs.writing.write_party.Tie as tie
+use Rattle.pieces.proofs.writing.write_party.Statement.{statement}
+use Rattle.pieces.proofs.writing.write_party.Tie as tie
 
 mul-at : tie.Need-mul-at
 mul-at c = search needs
@@ -38,7 +39,7 @@ returns c =
     let put = c .before .before in
     let wrote = put .before .before .before .before in
     let a = wrote .before .before .before .args in
-    let at = 8 + 8 * a .words + 32 * a .party in
+    let at = wordPlace (a .words) + 32 * a .party in
     put .put-8 .ensures
     ∙ ap (λ (l : List ℕ). sets l (at + 24) (bytesOf 8 0)) (wrote .write-record .ensures)
     ∙ party-laid (now (a .image)) at (a .r)

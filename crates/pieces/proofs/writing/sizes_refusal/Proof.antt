@@ -1,12 +1,12 @@
 use mathlib.Core.Path.{_≡_, refl, sym, _∙_}
 use mathlib.Core.Bool.{true}
-use Rattle.whole.specs.Whole.{lentFits}
+use Rattle.pieces.specs.Pieces.{lentFits}
 use borrow.Author.Tests.{not-true, not-false}
 use native.Mathlib.Omega.{arith}
-use Rattle.whole.proofs.Checked.{Lent, lent, length-taken}
+use Rattle.pieces.proofs.Checked.{Lent, lent, length-taken}
 use borrow.Author.Needs.{needs}
-use Rattle.whole.proofs.writing.sizes_refusal.Statement.{statement}
-use Rattle.whole.proofs.writing.sizes_refusal.Tie as tie
+use Rattle.pieces.proofs.writing.sizes_refusal.Statement.{statement}
+use Rattle.pieces.proofs.writing.sizes_refusal.Tie as tie
 
 fit : (c : tie.Else1) → lentFits (c .before .before .args .words) (c .before .before .args .parties) ≡ true
 fit c = sym (c .before .lent-fits .ensures) ∙ not-false _ (c .if1 .left)

@@ -1,0 +1,4 @@
+pub mod Below
+pub mod Checked
+pub mod Filled
+pub mod PartyBytes

@@ -1,0 +1,45 @@
+-- A whole image piece by piece: the checks of reading one, the sizes of one that is written, and a record with its spare bytes.
+use Prim.Native.Nat.{ℕ, zero, suc, _+_}
+use mathlib.Core.Bool.{Bool, true, not, _&&_}
+use mathlib.Core.List.{List, _++_}
+use lib.Dec.{eqb}
+use Rattle.logic.specs.Pick.{pick}
+use Rattle.party.specs.Valid.{validOf}
+use Rattle.party.specs.declared.Record.{Record}
+use Rattle.step.specs.Step.{stripFits, maxOf}
+use Rattle.step.specs.Call.{tableFits}
+use Rattle.little.specs.Bytes.{bytesOf}
+use Rattle.image.specs.Format.{recordPlace, lengthOf, maxAt, partiesAt, headerRefusal}
+use Rattle.image.specs.Spelling.{recordAt, isSpare, recordBytes}
+
+-- a test that holds of every number below a count
+unfoldable pub allBelow : (test : ℕ → Bool) (count : ℕ) → Bool
+allBelow test zero = true
+allBelow test (suc count) = allBelow test count && test count
+
+-- a strip of 3 to 4,096 words, a table of 1 to 16 records
+abbrev pub lentFits : (words parties : ℕ) → Bool
+lentFits words parties = stripFits words && tableFits parties
+
+-- a party's record in the image is valid, and its spare bytes are zero
+abbrev pub isSound : (image : List ℕ) (max party : ℕ) → Bool
+isSound image max party = isSpare image (recordPlace max party) && validOf max (recordAt image (recordPlace max party))
+
+abbrev pub agrees : (image : List ℕ) (words parties : ℕ) → Bool
+agrees image words parties = eqb words (maxAt image + 2) && eqb parties (partiesAt image)
+
+-- Reading: 1 for the strip and table that are lent, the header's own 1, 2 and 1, then 1 where they do not agree with it, then 4.
+unfoldable pub readRefusal : (image : List ℕ) (words parties : ℕ) → ℕ
+readRefusal image words parties =
+    pick (not (lentFits words parties)) 1
+    (pick (not (eqb (headerRefusal image) 0)) (headerRefusal image)
+    (pick (not (agrees image words parties)) 1
+    (pick (not (allBelow (isSound image (maxAt image)) (partiesAt image))) 4 0)))
+
+-- Writing looks at no byte already there: the strip, the table and the exact length.
+abbrev pub sizesAgree : (bytes words parties : ℕ) → Bool
+sizesAgree bytes words parties = lentFits words parties && eqb bytes (lengthOf (maxOf words) parties)
+
+-- a record's 32 bytes, the last 8 of them zero
+abbrev pub partyBytes : Record → List ℕ
+partyBytes r = recordBytes r ++ bytesOf 8 0
