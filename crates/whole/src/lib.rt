@@ -23,10 +23,10 @@ fn read_table(image: &[u8], words: usize, table: &mut [Record])
     requires { ⌜ wordPlace words + 32 * length (now table) ≤ length (now image) ⌝ }
     ensures { λ _. ⌜ now (table .exit) ≡ recordsFrom (now (image .entry)) (wordPlace words) (length (now (table .entry))) ⌝ }
 {
-    let mut i: usize = 0;
-    while i < table.len() {
-        table[i] = record_in(image, words, i);
-        i += 1;
+    let mut filled: usize = 0;
+    while filled < table.len() {
+        table[filled] = record_in(image, words, filled);
+        filled += 1;
     }
 }
 
@@ -49,10 +49,10 @@ fn table_refusal(words: usize, table: &[Record]) -> u32
     ensures { λ n. ⌜ n ≡ pick (allBelow (isValidIn words (now (table .entry))) (length (now (table .entry)))) 0 4 ⌝ }
 {
     let mut number: u32 = 0;
-    let mut i: usize = 0;
-    while i < table.len() {
-        number = next_refusal(number, words, table[i]);
-        i += 1;
+    let mut looked: usize = 0;
+    while looked < table.len() {
+        number = next_refusal(number, words, table[looked]);
+        looked += 1;
     }
     number
 }
@@ -61,10 +61,10 @@ fn write_table(image: &mut [u8], words: usize, table: &[Record])
     requires { ⌜ wordPlace words + 32 * length (now table) ≤ length (now image) ⌝ }
     ensures { λ _. ⌜ now (image .exit) ≡ sets (now (image .entry)) (wordPlace words) (tableBytes (now (table .entry))) ⌝ }
 {
-    let mut i: usize = 0;
-    while i < table.len() {
-        write_party(image, words, i, table[i]);
-        i += 1;
+    let mut laid: usize = 0;
+    while laid < table.len() {
+        write_party(image, words, laid, table[laid]);
+        laid += 1;
     }
 }
 
