@@ -11,7 +11,7 @@ use Rattle.logic.proofs.Bools.{passed}
 use Rattle.header.specs.Header.{versionAt, partiesAt, maxAt}
 use Rattle.format.specs.Format.{partyPlace, headerRefusal}
 use Rattle.format.specs.Spelling.{isSpare}
-use Rattle.format.specs.Inside.{headerOf, notNamed, namedRefusal, namedOf}
+use Rattle.format.specs.Inside.{headerOf, notNamed, namedRefusal, namedOf, takenHeader, foundNamed}
 use Rattle.format.specs.declared.Header.{Header}
 use Rattle.format.specs.declared.Named.{Named}
 use Rattle.format.proofs.Sizes.{Sized, header-sized}
@@ -37,8 +37,7 @@ pub header-number : (image : List ℕ) → headerOf image .number ≡ headerRefu
 unfolding headerOf
 header-number image = has-number (λ (h : Header). h .number) (headerRefusal image) refl refl
 
-pub header-taken : (image : List ℕ) → headerRefusal image ≡ 0
-    → headerOf image ≡ record { number = 0; version = versionAt image; max = maxAt image; parties = partiesAt image }
+pub header-taken : (image : List ℕ) → headerRefusal image ≡ 0 → headerOf image ≡ takenHeader image
 unfolding headerOf
 header-taken image taken = rw taken refl
 
@@ -47,8 +46,7 @@ module _ (image : List ℕ) (unknown : Bool) (party : ℕ) where
   unfolding namedOf
   named-number = has-number (λ (n : Named). n .number) (namedRefusal image unknown party) refl refl
 
-  pub named-found : namedRefusal image unknown party ≡ 0
-      → namedOf image unknown party ≡ record { number = 0; max = maxAt image; at = partyPlace image party }
+  pub named-found : namedRefusal image unknown party ≡ 0 → namedOf image unknown party ≡ foundNamed image party
   unfolding namedOf
   named-found none = rw none refl
 

@@ -23,6 +23,15 @@ sized version bytes max parties e =
     let first = both (maxFits max) (tableFits parties) (last .0) in
     record { max-fits = first .0; parties-fit = first .1; exact = eqb-true bytes (lengthOf version max parties) (last .1) }
 
+-- the mark, and the one version that is known
+pub header-marked : (image : List ℕ) → headerRefusal image ≡ 0 → (isMarked 83 image ≡ true) × (versionAt image ≡ 1)
+unfolding headerRefusal
+header-marked image e =
+    let past1 = passed (ltb (length image) 8) 0 _ e in
+    let past2 = passed (not (isMarked 83 image && isKnown (versionAt image))) 1 _ (past1 .1) in
+    let each = both (isMarked 83 image) (isKnown (versionAt image)) (not-false _ (past2 .0)) in
+    (each .0, eqb-true (versionAt image) 1 (each .1))
+
 pub header-sized : (image : List ℕ) → headerRefusal image ≡ 0 → Sized (versionAt image) (length image) (maxAt image) (partiesAt image)
 unfolding headerRefusal
 header-sized image e =

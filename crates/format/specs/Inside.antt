@@ -13,11 +13,11 @@ use Rattle.format.specs.declared.Named.{Named}
 abbrev pub badHeader : (number : ℕ) → Header
 badHeader number = record { number = number; version = 0; max = 0; parties = 0 }
 
+abbrev pub takenHeader : List ℕ → Header
+takenHeader image = record { number = 0; version = versionAt image; max = maxAt image; parties = partiesAt image }
+
 unfoldable pub headerOf : List ℕ → Header
-headerOf image =
-    pick (eqb (headerRefusal image) 0)
-    (record { number = 0; version = versionAt image; max = maxAt image; parties = partiesAt image })
-    (badHeader (headerRefusal image))
+headerOf image = pick (eqb (headerRefusal image) 0) (takenHeader image) (badHeader (headerRefusal image))
 
 -- header, operation, party number, spare bytes
 unfoldable pub namedRefusal : List ℕ → (unknown : Bool) (party : ℕ) → ℕ
@@ -30,7 +30,9 @@ namedRefusal image unknown party =
 abbrev pub notNamed : (number : ℕ) → Named
 notNamed number = record { number = number; max = 0; at = 0 }
 
+abbrev pub foundNamed : List ℕ → (party : ℕ) → Named
+foundNamed image party = record { number = 0; max = maxAt image; at = partyPlace image party }
+
 unfoldable pub namedOf : List ℕ → (unknown : Bool) (party : ℕ) → Named
 namedOf image unknown party =
-    pick (eqb (namedRefusal image unknown party) 0) (record { number = 0; max = maxAt image; at = partyPlace image party })
-    (notNamed (namedRefusal image unknown party))
+    pick (eqb (namedRefusal image unknown party) 0) (foundNamed image party) (notNamed (namedRefusal image unknown party))

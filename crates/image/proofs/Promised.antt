@@ -23,7 +23,7 @@ use Rattle.step.proofs.Cleared.{placeOf}
 use Rattle.header.specs.Header.{maxAt, versionAt}
 use Rattle.format.specs.Format.{wordPlace, wordsBase}
 use Rattle.format.specs.Spelling.{recordAt, recordBytes}
-use Rattle.format.specs.Inside.{namedRefusal, namedOf}
+use Rattle.format.specs.Inside.{namedRefusal, namedOf, foundNamed}
 use Rattle.image.specs.Inside.{LookMade, SwapMade}
 use Rattle.image.specs.Calls.{Done, imageOf, ImagePromise}
 use Rattle.format.specs.declared.Named.{Named}
@@ -57,7 +57,7 @@ module _ (image : List ℕ) (call : Call) (found : Named) (are : AreBytes image)
     pub clear : namedRefusal image (isUnknown call) (partyOf call) ≡ 0
     clear = sym number-read ∙ zero
 
-    found-is : found ≡ record { number = 0; max = maxAt image; at = placeIn image call }
+    found-is : found ≡ foundNamed image (partyOf call)
     found-is = read ∙ named-found image (isUnknown call) (partyOf call) clear
 
     pub at-is : found .at ≡ placeIn image call

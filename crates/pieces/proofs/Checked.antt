@@ -9,10 +9,11 @@ use borrow.Author.Tests.{eqb-true, leb-true, le-leb, not-false, ne-eqb}
 use native.Mathlib.Omega.{arith}
 use Rattle.logic.proofs.Bools.{both, passed}
 use Rattle.step.specs.Step.{stripFits, maxOf}
-use Rattle.step.specs.Call.{tableFits}
-use Rattle.image.specs.Format.{wordPlace, lengthOf, maxAt, partiesAt, headerRefusal}
-use Rattle.image.proofs.Sizes.{header-sized}
-use Rattle.image.proofs.Gated.{passed-number}
+use Rattle.call.specs.Call.{tableFits}
+use Rattle.header.specs.Header.{maxAt, partiesAt, versionAt}
+use Rattle.format.specs.Format.{wordPlace, lengthOf, headerRefusal, wordsBase}
+use Rattle.format.proofs.Sizes.{header-sized}
+use Rattle.format.proofs.Gated.{passed-number}
 use Rattle.pieces.specs.Pieces.{allBelow, lentFits, isSound, agrees, readRefusal, sizesAgree}
 
 -- a strip and a table that may be lent
@@ -69,7 +70,7 @@ pub record Readable (image : List ℕ) (words parties : ℕ) : Type 0 where
   pub words-agree : words ≡ maxAt image + 2
   pub parties-agree : parties ≡ partiesAt image
   pub sound : allBelow (isSound image (maxAt image)) (partiesAt image) ≡ true
-  pub exact : length image ≡ lengthOf (maxAt image) (partiesAt image)
+  pub exact : length image ≡ lengthOf (versionAt image) (maxAt image) (partiesAt image)
 
 pub readable : (image : List ℕ) (words parties : ℕ) → readRefusal image words parties ≡ 0 → Readable image words parties
 unfolding readRefusal
@@ -91,15 +92,15 @@ readable image words parties e =
 -- the sizes of one that is written
 pub record Writable (bytes words parties : ℕ) : Type 0 where
   pub lent-right : Lent words parties
-  pub exact : bytes ≡ wordPlace words + 32 * parties
+  pub exact : bytes ≡ wordPlace wordsBase words + 32 * parties
 
 pub writable : (bytes words parties : ℕ) → sizesAgree bytes words parties ≡ true → Writable bytes words parties
 writable bytes words parties e =
-    let each = both (lentFits words parties) (eqb bytes (lengthOf (maxOf words) parties)) e in
+    let each = both (lentFits words parties) (eqb bytes (lengthOf 1 (maxOf words) parties)) e in
     let right = lent words parties (each .0) in
-    let long = eqb-true bytes (lengthOf (maxOf words) parties) (each .1) in
+    let long = eqb-true bytes (lengthOf 1 (maxOf words) parties) (each .1) in
     record { lent-right = right; exact = omega (arith, right .least, long) }
 
 -- the length that a strip and a table take
-pub length-taken : (words parties : ℕ) → lentFits words parties ≡ true → lengthOf (maxOf words) parties ≡ wordPlace words + 32 * parties
+pub length-taken : (words parties : ℕ) → lentFits words parties ≡ true → lengthOf 1 (maxOf words) parties ≡ wordPlace wordsBase words + 32 * parties
 length-taken words parties e = let right = lent words parties e in omega (arith, right .least)

@@ -10,11 +10,12 @@ use native.Mathlib.Omega.{arith}
 use Rattle.party.specs.Record.{idle}
 use Rattle.party.specs.declared.Record.{Record}
 use Rattle.little.proofs.Runs.{whole-run}
-use Rattle.image.specs.Format.{wordPlace}
-use Rattle.image.specs.Spelling.{wordsFrom, recordsFrom}
-use Rattle.image.proofs.Parts.{Part, partsFrom, length-parts, part-at}
-use Rattle.image.proofs.Words.{wordPart, words-are-parts}
-use Rattle.image.proofs.Records.{recordPart, records-are-parts}
+use Rattle.format.specs.Spelling.{wordsFrom, recordsFrom}
+use Rattle.format.proofs.Parts.{Part, partsFrom, length-parts, part-at}
+use Rattle.format.proofs.Words.{wordPart, words-are-parts}
+use Rattle.format.proofs.Records.{recordPart, records-are-parts}
+use Rattle.header.specs.Header.{versionAt}
+use Rattle.format.specs.Format.{wordsBase}
 
 one-more-set : {A : Type 0} (past : A) (new l : List A) (at i : ℕ) → i < length new
     → set (sets l at (take i new)) (at + i) (getD new i past) ≡ sets l at (take (suc i) new)
@@ -47,14 +48,15 @@ module _ {A : Type 0} (part : Part A) (past : A) (image : List ℕ) (at : ℕ) (
 
 -- the words of an image, and its records
 abbrev pub wordsTo : (image strip : List ℕ) → ℕ → List ℕ
-wordsTo image strip i = readTo wordPart 0 image (wordPlace 0) strip i
+wordsTo image strip i = readTo wordPart 0 image wordsBase strip i
 
 abbrev pub recordsTo : (image : List ℕ) (at : ℕ) (table : List Record) → ℕ → List Record
-recordsTo image at table i = readTo recordPart idle image at table i
+recordsTo image at table i = readTo (recordPart (versionAt image)) idle image at table i
 
-pub all-words-read : (image strip : List ℕ) (i : ℕ) → length strip ≤ i → wordsTo image strip i ≡ wordsFrom image (wordPlace 0) (length strip)
-all-words-read image strip i h = all-read wordPart 0 image (wordPlace 0) strip i h ∙ sym (words-are-parts (length strip) image (wordPlace 0))
+pub all-words-read : (image strip : List ℕ) (i : ℕ) → length strip ≤ i → wordsTo image strip i ≡ wordsFrom image wordsBase (length strip)
+all-words-read image strip i h = all-read wordPart 0 image wordsBase strip i h ∙ sym (words-are-parts (length strip) image wordsBase)
 
 pub all-records-read : (image : List ℕ) (at : ℕ) (table : List Record) (i : ℕ) → length table ≤ i
-    → recordsTo image at table i ≡ recordsFrom image at (length table)
-all-records-read image at table i h = all-read recordPart idle image at table i h ∙ sym (records-are-parts (length table) image at)
+    → recordsTo image at table i ≡ recordsFrom (versionAt image) image at (length table)
+all-records-read image at table i h =
+    all-read (recordPart (versionAt image)) idle image at table i h ∙ sym (records-are-parts (versionAt image) (length table) image at)

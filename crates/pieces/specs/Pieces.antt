@@ -7,10 +7,11 @@ use Rattle.logic.specs.Pick.{pick}
 use Rattle.party.specs.Valid.{validOf}
 use Rattle.party.specs.declared.Record.{Record}
 use Rattle.step.specs.Step.{stripFits, maxOf}
-use Rattle.step.specs.Call.{tableFits}
+use Rattle.call.specs.Call.{tableFits}
 use Rattle.little.specs.Bytes.{bytesOf}
-use Rattle.image.specs.Format.{recordPlace, lengthOf, maxAt, partiesAt, headerRefusal}
-use Rattle.image.specs.Spelling.{recordAt, isSpare, recordBytes}
+use Rattle.header.specs.Header.{maxAt, partiesAt, versionAt}
+use Rattle.format.specs.Format.{recordPlace, lengthOf, headerRefusal, recordsBase}
+use Rattle.format.specs.Spelling.{recordAt, isSpare, recordBytes}
 
 -- a test that holds of every number below a count
 unfoldable pub allBelow : (test : ℕ → Bool) (count : ℕ) → Bool
@@ -23,7 +24,9 @@ lentFits words parties = stripFits words && tableFits parties
 
 -- a party's record in the image is valid, and its spare bytes are zero
 abbrev pub isSound : (image : List ℕ) (max party : ℕ) → Bool
-isSound image max party = isSpare image (recordPlace max party) && validOf max (recordAt image (recordPlace max party))
+isSound image max party =
+    isSpare (versionAt image) image (recordPlace (recordsBase (versionAt image) max) party)
+    && validOf max (recordAt (versionAt image) image (recordPlace (recordsBase (versionAt image) max) party))
 
 abbrev pub agrees : (image : List ℕ) (words parties : ℕ) → Bool
 agrees image words parties = eqb words (maxAt image + 2) && eqb parties (partiesAt image)
@@ -36,10 +39,10 @@ readRefusal image words parties =
     (pick (not (agrees image words parties)) 1
     (pick (not (allBelow (isSound image (maxAt image)) (partiesAt image))) 4 0)))
 
--- Writing looks at no byte already there: the strip, the table and the exact length.
+-- Writing makes images of version 1 and looks at no byte already there: the strip, the table and the exact length.
 abbrev pub sizesAgree : (bytes words parties : ℕ) → Bool
-sizesAgree bytes words parties = lentFits words parties && eqb bytes (lengthOf (maxOf words) parties)
+sizesAgree bytes words parties = lentFits words parties && eqb bytes (lengthOf 1 (maxOf words) parties)
 
 -- a record's 32 bytes, the last 8 of them zero
-abbrev pub partyBytes : Record → List ℕ
-partyBytes r = recordBytes r ++ bytesOf 8 0
+abbrev pub partyBytes : (version : ℕ) → Record → List ℕ
+partyBytes version r = recordBytes version r ++ bytesOf 8 0

@@ -1,19 +1,23 @@
 // What reading a whole image does without its table: the checks, the words, and one record by value.
 // Public for the calls on whole images: past the checks, these ask that the bytes lie inside.
-use image::gate::read_header;
-use image::record::read_record;
+use call::table_fits;
+use format::WORDS;
+use format::gate::read_header;
+use format::record::is_spare;
+use format::record::read_record;
 use little::number_8;
 use party::Record;
 use party::valid::is_valid;
 use step::strip_fits;
-use step::table_fits;
 ghost use mathlib.Core.Path.{_≡_};
 ghost use Prim.Native.Nat.{_+_, _*_, _≤_};
 ghost use lib.ListN.{length};
-ghost use Rattle.image.specs.Format.{wordPlace, recordPlace, lengthOf};
-ghost use Rattle.image.specs.Spelling.{wordsFrom, recordAt};
+ghost use Rattle.format.specs.Format.{wordPlace, recordPlace, lengthOf, wordsBase, recordsBase};
+ghost use Rattle.format.specs.Spelling.{wordsFrom, recordAt};
+ghost use Rattle.header.specs.Header.{versionAt};
 ghost use Rattle.pieces.specs.Pieces.{allBelow, lentFits, isSound, readRefusal};
 
+// The strip and the table that a caller lends, for reading and for writing.
 pub fn lent_fits(words: usize, parties: usize) -> bool
     ensures { λ t. ⌜ t ≡ lentFits words parties ⌝ }
 {
@@ -21,15 +25,15 @@ pub fn lent_fits(words: usize, parties: usize) -> bool
 }
 
 fn is_sound(image: &[u8], max: u16, party: usize) -> bool
-    requires { ⌜ recordPlace max party + 32 ≤ length (now image) ⌝ }
+    requires { ⌜ recordPlace (recordsBase (versionAt (now image)) max) party + 32 ≤ length (now image) ⌝ }
     ensures { λ t. ⌜ t ≡ isSound (now (image .entry)) max party ⌝ }
 {
-    let at = 8 + 8 * (max as usize + 2) + 32 * party;
-    (number_8(image, at + 24) == 0) & is_valid(max, read_record(image, at))
+    let at = WORDS + 8 * (max as usize + 2) + 32 * party;
+    is_spare(image, at) & is_valid(max, read_record(image, at))
 }
 
 fn are_sound(image: &[u8], max: u16, parties: u8) -> bool
-    requires { ⌜ lengthOf max parties ≤ length (now image) ⌝ }
+    requires { ⌜ lengthOf (versionAt (now image)) max parties ≤ length (now image) ⌝ }
     ensures { λ t. ⌜ t ≡ allBelow (isSound (now (image .entry)) max) parties ⌝ }
 {
     let mut all = true;
@@ -63,20 +67,20 @@ pub fn read_refusal(image: &[u8], words: usize, parties: usize) -> u32
 
 // The words. Public for read, which calls it past its checks.
 pub fn read_strip(image: &[u8], strip: &mut [u64])
-    requires { ⌜ wordPlace (length (now strip)) ≤ length (now image) ⌝ }
-    ensures { λ _. ⌜ now (strip .exit) ≡ wordsFrom (now (image .entry)) (wordPlace 0) (length (now (strip .entry))) ⌝ }
+    requires { ⌜ wordPlace wordsBase (length (now strip)) ≤ length (now image) ⌝ }
+    ensures { λ _. ⌜ now (strip .exit) ≡ wordsFrom (now (image .entry)) wordsBase (length (now (strip .entry))) ⌝ }
 {
     let mut i: usize = 0;
     while i < strip.len() {
-        strip[i] = number_8(image, 8 + 8 * i);
+        strip[i] = number_8(image, WORDS + 8 * i);
         i += 1;
     }
 }
 
 // A party's record, behind so many words. Public for read, which calls it past its checks.
 pub fn record_in(image: &[u8], words: usize, party: usize) -> Record
-    requires { ⌜ wordPlace words + 32 * party + 32 ≤ length (now image) ⌝ }
-    ensures { λ r. ⌜ r ≡ recordAt (now (image .entry)) (wordPlace words + 32 * party) ⌝ }
+    requires { ⌜ recordPlace (wordPlace wordsBase words) party + 32 ≤ length (now image) ⌝ }
+    ensures { λ r. ⌜ r ≡ recordAt (versionAt (now (image .entry))) (now (image .entry)) (recordPlace (wordPlace wordsBase words) party) ⌝ }
 {
-    read_record(image, 8 + 8 * words + 32 * party)
+    read_record(image, WORDS + 8 * words + 32 * party)
 }

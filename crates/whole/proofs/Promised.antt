@@ -10,11 +10,12 @@ use native.Mathlib.Omega.{arith}
 use Rattle.logic.specs.Pick.{pick}
 use Rattle.logic.proofs.Bools.{passed}
 use Rattle.party.specs.declared.Record.{Record}
-use Rattle.image.specs.Format.{wordPlace, recordPlace, maxAt}
+use Rattle.format.specs.Format.{wordPlace, wordsBase, recordsIn}
 use Rattle.step.specs.Step.{maxOf}
-use Rattle.image.specs.Spelling.{wordsFrom, recordsFrom, wordBytes}
-use Rattle.image.specs.Calls.{headerBytes}
+use Rattle.format.specs.Spelling.{wordsFrom, recordsFrom, wordBytes}
+use Rattle.format.specs.Fresh.{headerBytes}
 use Rattle.pieces.specs.Pieces.{allBelow, readRefusal, sizesAgree}
+use Rattle.header.specs.Header.{versionAt}
 use Rattle.whole.specs.Whole.{ReadPromise, isValidIn, tableBytes, writeRefusal, WritePromise}
 use Rattle.whole.proofs.Found.{foundBy}
 use Rattle.whole.proofs.Laid.{written-laid}
@@ -35,23 +36,23 @@ module _ (image strip : List ℕ) (table : List Record) (n : ℕ) (checked : n �
     fits = readable image (length strip) (length table) clear
 
     -- what is read lies inside
-    pub words-inside : wordPlace (length strip) ≤ length image
+    pub words-inside : wordPlace wordsBase (length strip) ≤ length image
     words-inside = omega (arith, fits .exact, fits .words-agree)
 
-    pub records-inside : wordPlace (length strip) + 32 * length table ≤ length image
+    pub records-inside : wordPlace wordsBase (length strip) + 32 * length table ≤ length image
     records-inside = omega (arith, fits .exact, fits .words-agree, fits .parties-agree)
 
     -- they pass: the words and the records of the image
-    pub read-done : (words : List ℕ) (records : List Record) → words ≡ wordsFrom image (wordPlace 0) (length strip)
-        → records ≡ recordsFrom image (wordPlace (length strip)) (length table) → ReadPromise image strip table 0 words records
+    pub read-done : (words : List ℕ) (records : List Record) → words ≡ wordsFrom image wordsBase (length strip)
+        → records ≡ recordsFrom (versionAt image) image (wordPlace wordsBase (length strip)) (length table) → ReadPromise image strip table 0 words records
     read-done words records ws rs =
         let test = eq-eqb (readRefusal image (length strip) (length table)) 0 clear in
-        let place : wordPlace (length strip) ≡ recordPlace (maxAt image) 0 = omega (arith, fits .words-agree) in
+        let place : wordPlace wordsBase (length strip) ≡ recordsIn image = omega (arith, fits .words-agree) in
         record {
           number-read = sym clear;
-          words-read = ws ∙ ap (wordsFrom image (wordPlace 0)) (fits .words-agree) ∙ rw test refl;
-          records-read = rs ∙ ap (λ (at : ℕ). recordsFrom image at (length table)) place
-              ∙ ap (recordsFrom image (recordPlace (maxAt image) 0)) (fits .parties-agree) ∙ rw test refl;
+          words-read = ws ∙ ap (wordsFrom image wordsBase) (fits .words-agree) ∙ rw test refl;
+          records-read = rs ∙ ap (λ (at : ℕ). recordsFrom (versionAt image) image at (length table)) place
+              ∙ ap (recordsFrom (versionAt image) image (recordsIn image)) (fits .parties-agree) ∙ rw test refl;
         }
 
 -- Writing: the sizes are checked first, then the records.
@@ -90,10 +91,10 @@ module _ (image strip : List ℕ) (table : List Record) (n : ℕ) (checked : n �
     words-within = (omega (arith, sizes .lent-right .least), sizes .lent-right .most)
 
     -- what is written lies inside
-    pub front-inside : (wordPlace (length strip) ≤ length image) × ((2 ≤ length strip) × ((length strip ≤ 4096) × (length table ≤ 16)))
+    pub front-inside : (wordPlace wordsBase (length strip) ≤ length image) × ((2 ≤ length strip) × ((length strip ≤ 4096) × (length table ≤ 16)))
     front-inside = (omega (arith, sizes .exact), (words-within .0, (words-within .1, sizes .lent-right .few)))
 
-    pub table-inside : (front : List ℕ) → length front ≡ length image → wordPlace (length strip) + 32 * length table ≤ length front
+    pub table-inside : (front : List ℕ) → length front ≡ length image → wordPlace wordsBase (length strip) + 32 * length table ≤ length front
     table-inside front long = omega (arith, sizes .exact, long)
 
     module _ (m : ℕ) (looked : m ≡ pick (allBelow (isValidIn (length strip) table) (length table)) 0 4) where
@@ -111,13 +112,13 @@ module _ (image strip : List ℕ) (table : List Record) (n : ℕ) (checked : n �
       pub records-refused : (m ≡ 0 → ⊥) → WritePromise image strip table m image
       records-refused some = kept m (looked ∙ turned) some
 
-      pub write-done : m ≡ 0 → (front bytes : List ℕ) → front ≡ sets (sets image 0 (headerBytes (maxOf (length strip)) (length table))) (wordPlace 0) (wordBytes strip)
-          → bytes ≡ sets front (wordPlace (length strip)) (tableBytes table) → WritePromise image strip table 0 bytes
+      pub write-done : m ≡ 0 → (front bytes : List ℕ) → front ≡ sets (sets image 0 (headerBytes 1 (maxOf (length strip)) (length table))) wordsBase (wordBytes strip)
+          → bytes ≡ sets front (wordPlace wordsBase (length strip)) (tableBytes 1 table) → WritePromise image strip table 0 bytes
       write-done zero front bytes laid last =
           let clear = sym turned ∙ sym looked ∙ zero in
           let test = eq-eqb refusal 0 clear in
           record {
             number-written = sym clear;
-            bytes-written = last ∙ ap (λ (l : List ℕ). sets l (wordPlace (length strip)) (tableBytes table)) laid
+            bytes-written = last ∙ ap (λ (l : List ℕ). sets l (wordPlace wordsBase (length strip)) (tableBytes 1 table)) laid
                 ∙ written-laid image strip table (sizes .exact) ∙ rw test refl;
           }

@@ -10,8 +10,8 @@ use Rattle.party.specs.Record.{idle}
 use Rattle.party.specs.Valid.{validOf}
 use Rattle.party.specs.declared.Record.{Record}
 use Rattle.step.specs.Step.{maxOf}
-use Rattle.image.specs.Spelling.{stripOf, tableOf, wordBytes}
-use Rattle.image.specs.Calls.{headerBytes}
+use Rattle.format.specs.Spelling.{stripOf, tableOf, wordBytes}
+use Rattle.format.specs.Fresh.{headerBytes}
 use Rattle.pieces.specs.Pieces.{allBelow, readRefusal, sizesAgree, partyBytes}
 
 pub record ReadPromise (image strip : List ℕ) (table : List Record) (number : ℕ) (words : List ℕ) (records : List Record) : Type 0 where
@@ -28,13 +28,13 @@ writeRefusal bytes words table =
     pick (not (sizesAgree bytes words (length table))) 1
     (pick (not (allBelow (isValidIn words table) (length table))) 4 0)
 
-unfoldable pub tableBytes : List Record → List ℕ
-tableBytes [] = []
-tableBytes (r ∷ table) = partyBytes r ++ tableBytes table
+unfoldable pub tableBytes : (version : ℕ) → List Record → List ℕ
+tableBytes version [] = []
+tableBytes version (r ∷ table) = partyBytes version r ++ tableBytes version table
 
 -- the bytes that spell a strip and a table
 abbrev pub writtenOf : (strip : List ℕ) (table : List Record) → List ℕ
-writtenOf strip table = headerBytes (maxOf (length strip)) (length table) ++ (wordBytes strip ++ tableBytes table)
+writtenOf strip table = headerBytes 1 (maxOf (length strip)) (length table) ++ (wordBytes strip ++ tableBytes 1 table)
 
 pub record WritePromise (image strip : List ℕ) (table : List Record) (number : ℕ) (bytes : List ℕ) : Type 0 where
   pub number-written : number ≡ writeRefusal (length image) (length strip) table

@@ -13,15 +13,16 @@ ghost use Prim.Native.Nat.{_+_, _*_, _≤_};
 ghost use lib.ListN.{length};
 ghost use lib.Seq.{sets};
 ghost use Rattle.logic.specs.Pick.{pick};
-ghost use Rattle.image.specs.Format.{wordPlace};
-ghost use Rattle.image.specs.Spelling.{recordsFrom};
+ghost use Rattle.format.specs.Format.{wordPlace, wordsBase};
+ghost use Rattle.format.specs.Spelling.{recordsFrom};
 ghost use Rattle.pieces.specs.Pieces.{allBelow};
+ghost use Rattle.header.specs.Header.{versionAt};
 ghost use Rattle.whole.specs.Whole.{isValidIn, tableBytes, ReadPromise, WritePromise};
 
 // The records of the image, which stand after its words.
 fn read_table(image: &[u8], words: usize, table: &mut [Record])
-    requires { ⌜ wordPlace words + 32 * length (now table) ≤ length (now image) ⌝ }
-    ensures { λ _. ⌜ now (table .exit) ≡ recordsFrom (now (image .entry)) (wordPlace words) (length (now (table .entry))) ⌝ }
+    requires { ⌜ wordPlace wordsBase words + 32 * length (now table) ≤ length (now image) ⌝ }
+    ensures { λ _. ⌜ now (table .exit) ≡ recordsFrom (versionAt (now (image .entry))) (now (image .entry)) (wordPlace wordsBase words) (length (now (table .entry))) ⌝ }
 {
     let mut filled: usize = 0;
     while filled < table.len() {
@@ -58,8 +59,8 @@ fn table_refusal(words: usize, table: &[Record]) -> u32
 }
 
 fn write_table(image: &mut [u8], words: usize, table: &[Record])
-    requires { ⌜ wordPlace words + 32 * length (now table) ≤ length (now image) ⌝ }
-    ensures { λ _. ⌜ now (image .exit) ≡ sets (now (image .entry)) (wordPlace words) (tableBytes (now (table .entry))) ⌝ }
+    requires { ⌜ wordPlace wordsBase words + 32 * length (now table) ≤ length (now image) ⌝ }
+    ensures { λ _. ⌜ now (image .exit) ≡ sets (now (image .entry)) (wordPlace wordsBase words) (tableBytes 1 (now (table .entry))) ⌝ }
 {
     let mut laid: usize = 0;
     while laid < table.len() {

@@ -11,9 +11,10 @@ use Rattle.walks.proofs.Prelude.{onEntry, Meets, tripleOf, Contract, Triple, ca
 use Rattle.walks.proofs.Steps.{shares-on, gives-up, after-call, guards, frees-local, frees-room, with-usize, result-u32, result-unit, some-number, no-number}
 use Rattle.party.specs.declared.Record.{Record}
 use Rattle.party.proofs.Record as R
-use Rattle.image.specs.Format.{wordPlace}
-use Rattle.image.specs.Spelling.{wordsFrom, recordsFrom}
+use Rattle.format.specs.Format.{wordPlace, wordsBase}
+use Rattle.format.specs.Spelling.{wordsFrom, recordsFrom}
 use Rattle.pieces.specs.Pieces.{readRefusal}
+use Rattle.header.specs.Header.{versionAt}
 use Rattle.whole.specs.Whole.{ReadPromise}
 use Rattle.whole.proofs.Promised.{read-refused, read-done, words-inside, records-inside}
 use Rattle.pieces.proofs.reading.read_refusal as read-refusal
@@ -94,7 +95,7 @@ module _ {M : Type 1} (𝓤 : URA M) (H : Heap 𝓤) (A : Atoms 𝓤) (W : Given
   abbrev to-words : Words 𝓤 H A at-mem run .Ghost
   to-words = (((κ₀, (κ₁, tt)), (q₀, (q₁, tt)), tt, (image, (strip, tt)), (image-val ∷ [], (strip-val ∷ [], tt))), tt)
 
-  goes-words : wordPlace (length ys) ≤ length xs
+  goes-words : wordPlace wordsBase (length ys) ≤ length xs
       → ent 𝓤 (sep 𝓤 (sem 𝓤 H A (ShrSlice (named 0) κ₀ u8 .own image (image-val ∷ []))) (sep 𝓤 (A .lft κ₀ q₀) (sep 𝓤 (sem 𝓤 H A (MutSlice (named 1) κ₁ u64 .own strip (strip-val ∷ []))) (A .lft κ₁ q₁)))) (Words 𝓤 H A at-mem run .pre to-words)
   goes-words inside =
       qed W (‵ (ShrSlice (named 0) κ₀ u8 .own image (image-val ∷ [])) ∷ ‵ (flft κ₀ q₀) ∷ ‵ (MutSlice (named 1) κ₁ u64 .own strip (strip-val ∷ [])) ∷ ‵ (flft κ₁ q₁) ∷ []) ∵ says ! inside $
@@ -103,7 +104,7 @@ module _ {M : Type 1} (𝓤 : URA M) (H : Heap 𝓤) (A : Atoms 𝓤) (W : Given
   abbrev to-records : Records 𝓤 H A at-mem run .Ghost
   to-records = (((κ₀, (κ₂, tt)), (q₀, (q₂, tt)), tt, (image, (length ys, (table, tt))), (image-val ∷ [], (vint w64 (length ys) ∷ [], (table-val ∷ [], tt)))), tt)
 
-  goes-records : wordPlace (length ys) + 32 * length ts ≤ length xs
+  goes-records : wordPlace wordsBase (length ys) + 32 * length ts ≤ length xs
       → ent 𝓤 (sep 𝓤 (sem 𝓤 H A (ShrSlice (named 0) κ₀ u8 .own image (image-val ∷ []))) (sep 𝓤 (A .lft κ₀ q₀) (sep 𝓤 (sem 𝓤 H A (MutSlice (named 1) κ₂ R.the-row .own table (table-val ∷ []))) (A .lft κ₂ q₂)))) (Records 𝓤 H A at-mem run .pre to-records)
   goes-records inside =
       qed W (‵ (ShrSlice (named 0) κ₀ u8 .own image (image-val ∷ [])) ∷ ‵ (flft κ₀ q₀) ∷ ‵ (MutSlice (named 1) κ₂ R.the-row .own table (table-val ∷ [])) ∷ ‵ (flft κ₂ q₂) ∷ []) ∵ says ! inside $
@@ -151,7 +152,7 @@ module _ {M : Type 1} (𝓤 : URA M) (H : Heap 𝓤) (A : Atoms 𝓤) (W : Given
         -- [the call; the image; the table; its token; _12; …], with _i at 4 + 2 · (12 − i)
         calls-at ! fm (Words 𝓤 H A at-mem run) known-words to-words (and-then ! (load ! (from ! (stop !)) (look ! 26 refl)) (and-then ! (load ! (from ! (stop !)) (look ! 8 refl)) (no-more !))) (λ w₁.
         after-call ! tt read-strip.ended (read-strip.clauses 𝓤 H A at-mem run) to-words w₁ (λ u₁ zs.
-        move ! (3 ∷ []) $ heard ! (zs .1 .0 ≡ wordsFrom xs (wordPlace 0) (length ys)) (λ e₁. use1 W (‵ (flft κ₀ q₀) ⊛ (‵ (flft κ₁ q₁) ⊛ ‵ ftrue)) (id⊢ 𝓤 _) $ split ! $ move ! (1 ∷ []) $ split ! $
+        move ! (3 ∷ []) $ heard ! (zs .1 .0 ≡ wordsFrom xs wordsBase (length ys)) (λ e₁. use1 W (‵ (flft κ₀ q₀) ⊛ (‵ (flft κ₁ q₁) ⊛ ‵ ftrue)) (id⊢ 𝓤 _) $ split ! $ move ! (1 ∷ []) $ split ! $
         -- [the strip's token; true; the image's token; the result; the last words; the image; …]
         move ! (4 ∷ []) $ fsplit ! $ move ! (1 ∷ []) $ fsplit ! $ fsplit ! $ move ! (1 ∷ []) $ feqL ! (λ l₁. move ! (6 ∷ []) $ result-unit ! w₁ $
         move ! (1 ∷ []) $ drop ! $ move ! (1 ∷ []) $ drop ! $ move ! (2 ∷ []) $ drop ! $
@@ -164,7 +165,7 @@ module _ {M : Type 1} (𝓤 : URA M) (H : Heap 𝓤) (A : Atoms 𝓤) (W : Given
         -- [the call; the last words; the strip's token; _12; …], with _i at 3 + 2 · (12 − i)
         calls-at ! fm (Records 𝓤 H A at-mem run) known-records to-records (and-then ! (load ! (from ! (stop !)) (look ! 25 refl)) (and-then ! (load ! (from ! (stop !)) (look ! 17 refl)) (and-then ! (load ! (from ! (stop !)) (look ! 3 refl)) (no-more !)))) (λ w₂.
         after-call ! tt read-table.ended (read-table.clauses 𝓤 H A at-mem run) to-records w₂ (λ u₂ rs.
-        move ! (3 ∷ []) $ heard ! (rs .1 .1 .0 ≡ recordsFrom xs (wordPlace (length ys)) (length ts)) (λ e₂. use1 W (‵ (flft κ₀ q₀) ⊛ (‵ (flft κ₂ q₂) ⊛ ‵ ftrue)) (id⊢ 𝓤 _) $ split ! $ move ! (1 ∷ []) $ split ! $
+        move ! (3 ∷ []) $ heard ! (rs .1 .1 .0 ≡ recordsFrom (versionAt xs) xs (wordPlace wordsBase (length ys)) (length ts)) (λ e₂. use1 W (‵ (flft κ₀ q₀) ⊛ (‵ (flft κ₂ q₂) ⊛ ‵ ftrue)) (id⊢ 𝓤 _) $ split ! $ move ! (1 ∷ []) $ split ! $
         move ! (4 ∷ []) $ fsplit ! $ move ! (1 ∷ []) $ fsplit ! $ move ! (1 ∷ []) $ fsplit ! $ fsplit ! $ move ! (1 ∷ []) $ feqL ! (λ l₂. move ! (7 ∷ []) $ result-unit ! w₂ $
         move ! (7 ∷ 0 ∷ 6 ∷ 8 ∷ 4 ∷ []) $
         -- [the last words; the last records; the three tokens; …; _12; …], with _i at 9 + 2 · (12 − i)

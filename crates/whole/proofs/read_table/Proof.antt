@@ -15,14 +15,15 @@ use Rattle.party.specs.Record.{idle}
 use Rattle.party.proofs.Record as R
 use Rattle.party.proofs.Record.Laws as R′
 use Rattle.table.proofs.Machine.{recordSize, record-typed}
-use Rattle.image.specs.Format.{wordPlace}
-use Rattle.image.specs.Spelling.{recordAt, recordsFrom}
-use Rattle.image.proofs.Records.{recordPart}
+use Rattle.format.specs.Format.{wordPlace, wordsBase}
+use Rattle.format.specs.Spelling.{recordAt, recordsFrom}
+use Rattle.format.proofs.Records.{recordPart}
 use Rattle.pieces.proofs.Filled.{recordsTo, length-read, one-more-read, all-records-read}
 use Rattle.pieces.proofs.reading.record_in as record-in
 use Rattle.pieces.proofs.reading.record_in.Symbol as record-in-def
 use Rattle.pieces.proofs.reading.record_in.Symbol.{name as #pieces·record-in}
 use Rattle.pieces.proofs.reading.record_in.Met as record-in-thm
+use Rattle.header.specs.Header.{versionAt}
 use Rattle.whole.proofs.read_table.Key.{name as #whole·read-table}
 use Rattle.whole.proofs.read_table as read-table
 use Rattle.whole.proofs.read_table.Statement as stated
@@ -38,7 +39,7 @@ RecordIn 𝓤 H A at-mem run = tripleOf 𝓤 H A record-in.signature (record-in.
 
 module _ {M : Type 1} (𝓤 : URA M) (H : Heap 𝓤) (A : Atoms 𝓤) (W : Given 𝓤 H A) (at-mem : Memory → SProp 𝓤) (run : Routine → Fun 𝓤)
     (κ₁ κ : Lft) (q₁ q : Share) (b₁ o₁ b o : ℕ) (γ₁ γ : GName) (ys : List ℕ) (n : ℕ) (ts : List Record)
-    (room₁ : Room u8 (length ys)) (n-fits : n < 2 ^ 64) (room : Room R.the-row (length ts)) (long : wordPlace n + 32 * length ts ≤ length ys) where
+    (room₁ : Room u8 (length ys)) (n-fits : n < 2 ^ 64) (room : Room R.the-row (length ts)) (long : wordPlace wordsBase n + 32 * length ts ≤ length ys) where
   abbrev xs : RefT (List ℕ)
   xs = record { ptr = (b₁, o₁); name = γ₁; now = ys }
 
@@ -68,21 +69,21 @@ module _ {M : Type 1} (𝓤 : URA M) (H : Heap 𝓤) (A : Atoms 𝓤) (W : Given
 
   -- the table with its first i records read
   abbrev filled : ℕ → List Record
-  filled i = recordsTo ys (wordPlace n) ts i
+  filled i = recordsTo ys (wordPlace wordsBase n) ts i
 
   filled-length : (i : ℕ) → length (filled i) ≡ length ts
-  filled-length i = length-read recordPart idle ys (wordPlace n) ts i
+  filled-length i = length-read (recordPart (versionAt ys)) idle ys (wordPlace wordsBase n) ts i
 
   abbrev to-record : ℕ → RecordIn 𝓤 H A at-mem run .Ghost
   to-record i = (((κ₁, tt), (q₁, tt), tt, (xs, (n, (i, tt))), (image-val ∷ [], (vint w64 n ∷ [], (vint w64 i ∷ [], tt)))), tt)
 
-  goes-record : (i : ℕ) → i < 2 ^ 64 → wordPlace n + 32 * i + 32 ≤ length ys
+  goes-record : (i : ℕ) → i < 2 ^ 64 → wordPlace wordsBase n + 32 * i + 32 ≤ length ys
       → ent 𝓤 (sep 𝓤 (sem 𝓤 H A (ShrSlice (named 0) κ₁ u8 .own xs (image-val ∷ []))) (A .lft κ₁ q₁)) (RecordIn 𝓤 H A at-mem run .pre (to-record i))
   goes-record i i-fits inside =
       qed W (‵ (ShrSlice (named 0) κ₁ u8 .own xs (image-val ∷ [])) ∷ ‵ (flft κ₁ q₁) ∷ []) ∵ says ! inside $
       nothing ! $ move ! (2 ∷ 0 ∷ []) $ join ! $ frame ! $ nothing ! $ with-usize ! i i-fits $ with-usize ! n n-fits $ move ! (1 ∷ 0 ∷ []) $ fjoin ! $ done !
 
-  exits : (rs : List Record) → rs ≡ recordsFrom ys (wordPlace n) (length ts) → length rs ≡ length ts
+  exits : (rs : List Record) → rs ≡ recordsFrom (versionAt ys) ys (wordPlace wordsBase n) (length ts) → length rs ≡ length ts
       → ent 𝓤 (⋆ 𝓤 H A (‵ (fobs γ (codedHoleys R.the-row .code (heres R.the-row rs))) ∷ ‵ (fbor κ (Held R.the-row (length rs) b o γ)) ∷ ‵ (flft κ q) ∷ ‵ (flft κ₁ q₁) ∷ [])) (Post vunit)
   exits rs e l =
       qed W (‵ (fobs γ (codedHoleys R.the-row .code (heres R.the-row rs))) ∷ ‵ (fbor κ (Held R.the-row (length rs) b o γ)) ∷ ‵ (flft κ q) ∷ ‵ (flft κ₁ q₁) ∷ []) ∵
@@ -123,7 +124,7 @@ module _ {M : Type 1} (𝓤 : URA M) (H : Heap 𝓤) (A : Atoms 𝓤) (W : Given
           -- [the call; the image; obs; …; _8; …], with _i at 5 + 2 · (8 − i)
           calls-at ! (fmOf 𝓤 H (W .laws) 𝓣) (RecordIn 𝓤 H A at-mem run) known (to-record (i .0)) (and-then ! (load ! (from ! (stop !)) (look ! 19 refl)) (and-then ! (load ! (from ! (stop !)) (look ! 17 refl)) (and-then ! (load ! (from ! (stop !)) (look ! 13 refl)) (no-more !)))) (λ w.
           after-call ! tt record-in.ended (record-in.clauses 𝓤 H A at-mem run) (to-record (i .0)) w (λ r ws.
-          move ! (3 ∷ []) $ heard ! (r ≡ recordAt ys (wordPlace n + 32 * i .0)) (λ e. use1 W (‵ (flft κ₁ q₁) ⊛ ‵ ftrue) (id⊢ 𝓤 _) $ split ! $ move ! (2 ∷ []) $ result-struct ! R.the-type R′.the-laws r w (λ is.
+          move ! (3 ∷ []) $ heard ! (r ≡ recordAt (versionAt ys) ys (wordPlace wordsBase n + 32 * i .0)) (λ e. use1 W (‵ (flft κ₁ q₁) ⊛ ‵ ftrue) (id⊢ 𝓤 _) $ split ! $ move ! (2 ∷ []) $ result-struct ! R.the-type R′.the-laws r w (λ is.
           move ! (1 ∷ []) $ drop ! $ move ! (1 ∷ []) $ drop ! $
           -- [the token; the image; obs; …]
           land ! (from ! (stop !)) (init ! 7 refl (record-typed 𝓤 H A W r is)) $
@@ -143,7 +144,7 @@ module _ {M : Type 1} (𝓤 : URA M) (H : Heap 𝓤) (A : Atoms 𝓤) (W : Given
           (λ over. exec ! C Λ En lowered.t-3 (atRet En Post) $
           assigns ! (of-opd ! (unit-lit !)) (from ! (stop !)) (init ! 21 refl (tt, tt)) $
           returns ! (look ! 21 refl) $ frees-local ! 21 refl refl $ frees-local ! 19 refl refl $ frees-local ! 17 refl refl $ frees-local ! 15 refl refl $ frees-local ! 13 refl refl $ frees-local ! 11 refl refl $ frees-local ! 9 refl refl $ frees-room ! 7 refl refl $ frees-room ! 5 refl refl $ free0 ! $
-          keep ! (2 ∷ 3 ∷ 4 ∷ 1 ∷ []) $ by ! (exits (filled (i .0)) (all-records-read ys (wordPlace n) ts (i .0) (nltb→le (i .0) (length ts) over)) (filled-length (i .0))))
+          keep ! (2 ∷ 3 ∷ 4 ∷ 1 ∷ []) $ by ! (exits (filled (i .0)) (all-records-read ys (wordPlace wordsBase n) ts (i .0) (nltb→le (i .0) (length ts) over)) (filled-length (i .0))))
         where
           below : Holds (ltb (i .0) (length ts)) → i .0 < length ts
           below = is-below (length ts) i
@@ -151,11 +152,11 @@ module _ {M : Type 1} (𝓤 : URA M) (H : Heap 𝓤) (A : Atoms 𝓤) (W : Given
           within : Holds (ltb (i .0) (length ts)) → i .0 < length (filled (i .0))
           within less = subst (λ (k : ℕ). i .0 < k) (sym (filled-length (i .0))) (below less)
 
-          inside : Holds (ltb (i .0) (length ts)) → wordPlace n + 32 * i .0 + 32 ≤ length ys
+          inside : Holds (ltb (i .0) (length ts)) → wordPlace wordsBase n + 32 * i .0 + 32 ≤ length ys
           inside less = omega (arith, below less, long)
 
-          one-more : Holds (ltb (i .0) (length ts)) → (r : Record) → r ≡ recordAt ys (wordPlace n + 32 * i .0) → set (filled (i .0)) (i .0) r ≡ filled (i .0 + 1)
-          one-more less r e = subst (λ (s : Record). set (filled (i .0)) (i .0) s ≡ filled (i .0 + 1)) (sym e) (one-more-read recordPart idle ys (wordPlace n) ts (i .0) (below less))
+          one-more : Holds (ltb (i .0) (length ts)) → (r : Record) → r ≡ recordAt (versionAt ys) ys (wordPlace wordsBase n + 32 * i .0) → set (filled (i .0)) (i .0) r ≡ filled (i .0 + 1)
+          one-more less r e = subst (λ (s : Record). set (filled (i .0)) (i .0) s ≡ filled (i .0 + 1)) (sym e) (one-more-read (recordPart (versionAt ys)) idle ys (wordPlace wordsBase n) ts (i .0) (below less))
 
     walk : ent 𝓤 (onEntry 𝓤 H A read-table.signature (κ₁, (κ, tt)) (q₁, (q, tt)) a vals) (WpFn 𝓤 H C Λ code.function (image-val ∷ vint w64 n ∷ table-val ∷ []) Post)
     walk =
@@ -174,7 +175,7 @@ read-table-meets 𝓤 H A W at-mem run 𝓣 known =
     walk-meets 𝓤 H A read-table.ended stayed W (goes-dropped 𝓤 H A W 2 (shrSliceOf (0 ∷ []) tt (plain (λ _. u8))) yes (λ κs x f. refl), (goes-none 𝓤 H A W 2 (λ _. usize) yes (λ κs x f. refl), (goes-slice 𝓤 H A W 2 1 tt (plain (λ _. R.the-row)), tt))) (read-table.clauses 𝓤 H A at-mem run) (WpFn 𝓤 H (𝓣 .C) (𝓣 .Λ) code.function) (WpFn-mono 𝓤 H (W .laws) 𝓣 code.function)
     (walked 𝓤 H A read-table.ended stayed (read-table.clauses 𝓤 H A at-mem run) (WpFn 𝓤 H (𝓣 .C) (𝓣 .Λ) code.function)
     (λ κs. (slice-vals, (uint-vals w64, (slice-vals, tt)))) (λ κs. (shr-slice-tells (named 0) (κs .0) u8, (uint-tells w64, (mut-slice-tells (named 1) (κs .1 .0) R.the-row, tt))))
-    (λ κs qs bounds a g are. needs 𝓤 (wordPlace (a .1 .0) + 32 * length (a .1 .1 .0 .now) ≤ length (a .0 .now)) _ (λ long. walk 𝓤 H A W at-mem run (κs .0) (κs .1 .0) (qs .0) (qs .1 .0) (a .0 .ptr .0) (a .0 .ptr .1) (a .1 .1 .0 .ptr .0) (a .1 .1 .0 .ptr .1) (a .0 .name) (a .1 .1 .0 .name) (a .0 .now) (a .1 .0) (a .1 .1 .0 .now) (are .0 .0 .1) (are .1 .0 .1) (are .1 .1 .0 .0 .1) long 𝓣 known)))
+    (λ κs qs bounds a g are. needs 𝓤 (wordPlace wordsBase (a .1 .0) + 32 * length (a .1 .1 .0 .now) ≤ length (a .0 .now)) _ (λ long. walk 𝓤 H A W at-mem run (κs .0) (κs .1 .0) (qs .0) (qs .1 .0) (a .0 .ptr .0) (a .0 .ptr .1) (a .1 .1 .0 .ptr .0) (a .1 .1 .0 .ptr .1) (a .0 .name) (a .1 .1 .0 .name) (a .0 .now) (a .1 .0) (a .1 .1 .0 .now) (are .0 .0 .1) (are .1 .0 .1) (are .1 .1 .0 .0 .1) long 𝓣 known)))
 
 pub read-table-spec : {M : Type 1} → stated.statement M
 unfolding code.routine tablesOf

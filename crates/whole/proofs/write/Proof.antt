@@ -16,9 +16,9 @@ use Rattle.logic.specs.Pick.{pick}
 use Rattle.party.specs.declared.Record.{Record}
 use Rattle.party.proofs.Record as R
 use Rattle.step.specs.Step.{maxOf}
-use Rattle.image.specs.Format.{wordPlace}
-use Rattle.image.specs.Spelling.{wordBytes}
-use Rattle.image.specs.Calls.{headerBytes}
+use Rattle.format.specs.Format.{wordPlace, wordsBase}
+use Rattle.format.specs.Spelling.{wordBytes}
+use Rattle.format.specs.Fresh.{headerBytes}
 use Rattle.pieces.specs.Pieces.{allBelow, sizesAgree}
 use Rattle.whole.specs.Whole.{isValidIn, tableBytes, WritePromise}
 use Rattle.whole.proofs.Promised.{sizes-refused, records-refused, write-done, words-within, front-inside, table-inside}
@@ -115,7 +115,7 @@ module _ {M : Type 1} (𝓤 : URA M) (H : Heap 𝓤) (A : Atoms 𝓤) (W : Given
   abbrev to-front : ℕ → GName → Front 𝓤 H A at-mem run .Ghost
   to-front ν δ = (((ν ∷ [], (κ₁, tt)), (fullShare, (q₁, tt)), tt, (image δ xs, (strip, (length ts, tt))), (image-val ∷ [], (strip-val ∷ [], (vint w64 (length ts) ∷ [], tt)))), tt)
 
-  goes-front : (ν : ℕ) (δ : GName) → (wordPlace (length ys) ≤ length xs) × ((2 ≤ length ys) × ((length ys ≤ 4096) × (length ts ≤ 16)))
+  goes-front : (ν : ℕ) (δ : GName) → (wordPlace wordsBase (length ys) ≤ length xs) × ((2 ≤ length ys) × ((length ys ≤ 4096) × (length ts ≤ 16)))
       → ent 𝓤 (sep 𝓤 (sem 𝓤 H A (MutSlice (named 0) (ν ∷ []) u8 .own (image δ xs) (image-val ∷ []))) (sep 𝓤 (A .lft (ν ∷ []) fullShare) (sep 𝓤 (sem 𝓤 H A (ShrSlice (named 1) κ₁ u64 .own strip (strip-val ∷ []))) (A .lft κ₁ q₁)))) (Front 𝓤 H A at-mem run .pre (to-front ν δ))
   goes-front ν δ inside =
       qed W (‵ (MutSlice (named 0) (ν ∷ []) u8 .own (image δ xs) (image-val ∷ [])) ∷ ‵ (flft (ν ∷ []) fullShare) ∷ ‵ (ShrSlice (named 1) κ₁ u64 .own strip (strip-val ∷ [])) ∷ ‵ (flft κ₁ q₁) ∷ []) ∵ says ! inside $
@@ -124,7 +124,7 @@ module _ {M : Type 1} (𝓤 : URA M) (H : Heap 𝓤) (A : Atoms 𝓤) (W : Given
   abbrev to-records : List ℕ → Records 𝓤 H A at-mem run .Ghost
   to-records zs = (((κ₀, (κ₂, tt)), (q₀, (q₂, tt)), tt, (image γ₀ zs, (length ys, (table, tt))), (image-val ∷ [], (vint w64 (length ys) ∷ [], (table-val ∷ [], tt)))), tt)
 
-  goes-records : (zs : List ℕ) → wordPlace (length ys) + 32 * length ts ≤ length zs
+  goes-records : (zs : List ℕ) → wordPlace wordsBase (length ys) + 32 * length ts ≤ length zs
       → ent 𝓤 (sep 𝓤 (sem 𝓤 H A (MutSlice (named 0) κ₀ u8 .own (image γ₀ zs) (image-val ∷ []))) (sep 𝓤 (A .lft κ₀ q₀) (sep 𝓤 (sem 𝓤 H A (ShrSlice (named 1) κ₂ R.the-row .own table (table-val ∷ []))) (A .lft κ₂ q₂)))) (Records 𝓤 H A at-mem run .pre (to-records zs))
   goes-records zs inside =
       qed W (‵ (MutSlice (named 0) κ₀ u8 .own (image γ₀ zs) (image-val ∷ [])) ∷ ‵ (flft κ₀ q₀) ∷ ‵ (ShrSlice (named 1) κ₂ R.the-row .own table (table-val ∷ [])) ∷ ‵ (flft κ₂ q₂) ∷ []) ∵ says ! inside $
@@ -189,7 +189,7 @@ module _ {M : Type 1} (𝓤 : URA M) (H : Heap 𝓤) (A : Atoms 𝓤) (W : Given
         -- [the call; what the holder keeps; the table's token; the table; _14; …], with _i at 4 + 2 · (14 − i)
         calls-at ! fm (Front 𝓤 H A at-mem run) known-front (to-front ν δ) (and-then ! (load ! (from ! (stop !)) (look ! 8 refl)) (and-then ! (load ! (from ! (stop !)) (look ! 28 refl)) (and-then ! (load ! (from ! (stop !)) (look ! 20 refl)) (no-more !)))) (λ w₂.
         after-call ! tt write-front.ended (write-front.clauses 𝓤 H A at-mem run) (to-front ν δ) w₂ (λ u₂ zs.
-        move ! (3 ∷ []) $ heard ! (zs .0 ≡ sets (sets xs 0 (headerBytes (maxOf (length ys)) (length ts))) (wordPlace 0) (wordBytes ys)) (λ front. use1 W (‵ (flft (ν ∷ []) fullShare) ⊛ (‵ (flft κ₁ q₁) ⊛ ‵ ftrue)) (id⊢ 𝓤 _) $ split ! $ move ! (1 ∷ []) $ split ! $
+        move ! (3 ∷ []) $ heard ! (zs .0 ≡ sets (sets xs 0 (headerBytes 1 (maxOf (length ys)) (length ts))) wordsBase (wordBytes ys)) (λ front. use1 W (‵ (flft (ν ∷ []) fullShare) ⊛ (‵ (flft κ₁ q₁) ⊛ ‵ ftrue)) (id⊢ 𝓤 _) $ split ! $ move ! (1 ∷ []) $ split ! $
         move ! (4 ∷ []) $ fsplit ! $ fsplit ! $ move ! (1 ∷ []) $ feqL ! (λ l. move ! (5 ∷ []) $ result-unit ! w₂ $
         -- [the last bytes; …; the strip's token; …; the call's token; what the holder keeps; the table's token; the table; _14; …], with _i at 8 + 2 · (14 − i)
         land ! (from ! (stop !)) (init ! 16 refl (tt, tt)) $
@@ -203,7 +203,7 @@ module _ {M : Type 1} (𝓤 : URA M) (H : Heap 𝓤) (A : Atoms 𝓤) (W : Given
         -- [the call; the strip's token; _14; …], with _i at 2 + 2 · (14 − i)
         calls-at ! fm (Records 𝓤 H A at-mem run) known-records (to-records (zs .0)) (and-then ! (load ! (from ! (stop !)) (look ! 2 refl)) (and-then ! (load ! (from ! (stop !)) (look ! 16 refl)) (and-then ! (load ! (from ! (stop !)) (look ! 24 refl)) (no-more !)))) (λ w₃.
         after-call ! tt write-table.ended (write-table.clauses 𝓤 H A at-mem run) (to-records (zs .0)) w₃ (λ u₃ bs.
-        move ! (3 ∷ []) $ heard ! (bs .0 ≡ sets (zs .0) (wordPlace (length ys)) (tableBytes ts)) (λ last. use1 W (‵ (flft κ₀ q₀) ⊛ (‵ (flft κ₂ q₂) ⊛ ‵ ftrue)) (id⊢ 𝓤 _) $ split ! $ move ! (1 ∷ []) $ split ! $
+        move ! (3 ∷ []) $ heard ! (bs .0 ≡ sets (zs .0) (wordPlace wordsBase (length ys)) (tableBytes 1 ts)) (λ last. use1 W (‵ (flft κ₀ q₀) ⊛ (‵ (flft κ₂ q₂) ⊛ ‵ ftrue)) (id⊢ 𝓤 _) $ split ! $ move ! (1 ∷ []) $ split ! $
         move ! (4 ∷ []) $ fsplit ! $ fsplit ! $ move ! (1 ∷ []) $ feqL ! (λ l₃. move ! (5 ∷ []) $ result-unit ! w₃ $
         move ! (0 ∷ 4 ∷ 5 ∷ 2 ∷ []) $
         -- [the last bytes; the three tokens; …; _14; …], with _i at 6 + 2 · (14 − i)

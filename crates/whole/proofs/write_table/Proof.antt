@@ -18,7 +18,7 @@ use Rattle.party.specs.Record.{idle}
 use Rattle.party.proofs.Record as R
 use Rattle.party.proofs.Record.Laws as R′
 use Rattle.table.proofs.Machine.{recordSize, machine, IsRecord, record-typed}
-use Rattle.image.specs.Format.{wordPlace}
+use Rattle.format.specs.Format.{wordPlace, wordsBase}
 use Rattle.pieces.specs.Pieces.{partyBytes}
 use Rattle.whole.specs.Whole.{tableBytes}
 use Rattle.whole.proofs.Laid.{laidTo, one-record-more}
@@ -41,7 +41,7 @@ Writing 𝓤 H A at-mem run = tripleOf 𝓤 H A write-party.signature (write-par
 
 module _ {M : Type 1} (𝓤 : URA M) (H : Heap 𝓤) (A : Atoms 𝓤) (W : Given 𝓤 H A) (at-mem : Memory → SProp 𝓤) (run : Routine → Fun 𝓤)
     (κ₁ κ : Lft) (q₁ q : Share) (b₁ o₁ b o : ℕ) (γ₁ γ : GName) (xs : List ℕ) (n : ℕ) (ts : List Record)
-    (room₁ : Room u8 (length xs)) (n-fits : n < 2 ^ 64) (room : Room R.the-row (length ts)) (long : wordPlace n + 32 * length ts ≤ length xs) where
+    (room₁ : Room u8 (length xs)) (n-fits : n < 2 ^ 64) (room : Room R.the-row (length ts)) (long : wordPlace wordsBase n + 32 * length ts ≤ length xs) where
   -- the image, under the name δ at the bytes l
   abbrev image : GName → List ℕ → RefT (List ℕ)
   image δ l = record { ptr = (b₁, o₁); name = δ; now = l }
@@ -75,21 +75,21 @@ module _ {M : Type 1} (𝓤 : URA M) (H : Heap 𝓤) (A : Atoms 𝓤) (W : Given
 
   -- the bytes with the first i records laid
   abbrev laid : ℕ → List ℕ
-  laid i = laidTo xs (wordPlace n) ts i
+  laid i = laidTo 1 xs (wordPlace wordsBase n) ts i
 
   laid-length : (i : ℕ) → length (laid i) ≡ length xs
-  laid-length i = length-sets xs (wordPlace n) (tableBytes (take i ts))
+  laid-length i = length-sets xs (wordPlace wordsBase n) (tableBytes 1 (take i ts))
 
   abbrev to-party : ℕ → ℕ → GName → Writing 𝓤 H A at-mem run .Ghost
   to-party i ν δ = (((ν ∷ [], tt), (fullShare, tt), tt, (image δ (laid i), (n, (i, (at i, tt)))), (image-val ∷ [], (vint w64 n ∷ [], (vint w64 i ∷ [], (machine (at i) ∷ [], tt))))), tt)
 
-  goes-party : (i ν : ℕ) (δ : GName) → i < 2 ^ 64 → IsRecord (at i) → wordPlace n + 32 * i + 32 ≤ length (laid i)
+  goes-party : (i ν : ℕ) (δ : GName) → i < 2 ^ 64 → IsRecord (at i) → wordPlace wordsBase n + 32 * i + 32 ≤ length (laid i)
       → ent 𝓤 (sep 𝓤 (sem 𝓤 H A (MutSlice (named 0) (ν ∷ []) u8 .own (image δ (laid i)) (image-val ∷ []))) (A .lft (ν ∷ []) fullShare)) (Writing 𝓤 H A at-mem run .pre (to-party i ν δ))
   goes-party i ν δ i-fits is inside =
       qed W (‵ (MutSlice (named 0) (ν ∷ []) u8 .own (image δ (laid i)) (image-val ∷ [])) ∷ ‵ (flft (ν ∷ []) fullShare) ∷ []) ∵ says ! inside $ nothing ! $ move ! (2 ∷ 0 ∷ []) $ join ! $ frame ! $
       nothing ! $ with-struct ! R.the-type R′.the-laws R′.the-plain (at i) is $ with-usize ! i i-fits $ with-usize ! n n-fits $ move ! (1 ∷ 0 ∷ []) $ fjoin ! $ done !
 
-  exits : (zs : List ℕ) → zs ≡ sets xs (wordPlace n) (tableBytes ts) → length zs ≡ length xs
+  exits : (zs : List ℕ) → zs ≡ sets xs (wordPlace wordsBase n) (tableBytes 1 ts) → length zs ≡ length xs
       → ent 𝓤 (⋆ 𝓤 H A (‵ (MutSlice (named 0) κ₁ u8 .own (image γ₁ zs) (image-val ∷ [])) ∷ ‵ (flft κ₁ q₁) ∷ ‵ (flft κ q) ∷ [])) (Post vunit)
   exits zs e l =
       qed W (‵ (MutSlice (named 0) κ₁ u8 .own (image γ₁ zs) (image-val ∷ [])) ∷ ‵ (flft κ₁ q₁) ∷ ‵ (flft κ q) ∷ []) ∵
@@ -141,7 +141,7 @@ module _ {M : Type 1} (𝓤 : URA M) (H : Heap 𝓤) (A : Atoms 𝓤) (W : Given
           -- [the call; what the holder keeps; the table's token; its borrow; _11; …], with _i at 4 + 2 · (11 − i)
           calls-at ! (fmOf 𝓤 H (W .laws) 𝓣) (Writing 𝓤 H A at-mem run) known (to-party (i .0) ν δ) (and-then ! (load ! (from ! (stop !)) (look ! 8 refl)) (and-then ! (load ! (from ! (stop !)) (look ! 22 refl)) (and-then ! (load ! (from ! (stop !)) (look ! 18 refl)) (and-then ! (load ! (from ! (stop !)) (look ! 4 refl)) (no-more !))))) (λ w.
           after-call ! tt write-party.ended (write-party.clauses 𝓤 H A at-mem run) (to-party (i .0) ν δ) w (λ u zs.
-          move ! (3 ∷ []) $ heard ! (zs .0 ≡ sets (laid (i .0)) (wordPlace n + 32 * i .0) (partyBytes (at (i .0)))) (λ e. use1 W (‵ (flft (ν ∷ []) fullShare) ⊛ ‵ ftrue) (id⊢ 𝓤 _) $ split ! $
+          move ! (3 ∷ []) $ heard ! (zs .0 ≡ sets (laid (i .0)) (wordPlace wordsBase n + 32 * i .0) (partyBytes 1 (at (i .0)))) (λ e. use1 W (‵ (flft (ν ∷ []) fullShare) ⊛ ‵ ftrue) (id⊢ 𝓤 _) $ split ! $
           move ! (3 ∷ []) $ fsplit ! $ fsplit ! $ move ! (1 ∷ []) $ feqL ! (λ l. move ! (4 ∷ []) $ result-unit ! w $
           -- [the last bytes; …; the call's token; …; what the holder keeps; the table's token; its borrow; _11; …], with _i at 7 + 2 · (11 − i)
           land ! (from ! (stop !)) (init ! 15 refl (tt, tt)) $
@@ -149,7 +149,7 @@ module _ {M : Type 1} (𝓤 : URA M) (H : Heap 𝓤) (A : Atoms 𝓤) (W : Given
           move ! (2 ∷ []) $ drop ! $ move ! (2 ∷ []) $ drop ! $ move ! (0 ∷ 1 ∷ 3 ∷ 2 ∷ []) $
           assigns-last ! (bin ! (load ! (from ! (stop !)) (look ! 18 refl)) (lit ! tt) (record { fits = turn-fits (length ts) (room .0) (next-turn (length ts) i less) })) (from ! (stop !)) (store ! 18 refl (tt, record { fits = turn-fits (length ts) (room .0) (next-turn (length ts) i less) })) $
           forget ! 4 refl $ forget ! 6 refl $ forget ! 8 refl $ forget ! 10 refl $ forget ! 12 refl $ forget ! 14 refl $ forget ! 16 refl $
-          rewrite ! 0 (λ (bytes : List ℕ). ‵ (MutSlice (named 0) κ₁ u8 .own (image γ₁ bytes) (image-val ∷ []))) (e ∙ one-record-more xs (wordPlace n) ts (i .0) (below less)) refl $
+          rewrite ! 0 (λ (bytes : List ℕ). ‵ (MutSlice (named 0) κ₁ u8 .own (image γ₁ bytes) (image-val ∷ []))) (e ∙ one-record-more 1 xs (wordPlace wordsBase n) ts (i .0) (below less)) refl $
           again ! (Nearer (length ts)) At i (next-turn (length ts) i less) (is-nearer (length ts) i less))))))))
           (λ over. exec ! C Λ En lowered.t-3 (atRet En Post) $
           assigns ! (of-opd ! (unit-lit !)) (from ! (stop !)) (init ! 26 refl (tt, tt)) $
@@ -159,11 +159,11 @@ module _ {M : Type 1} (𝓤 : URA M) (H : Heap 𝓤) (A : Atoms 𝓤) (W : Given
           below : Holds (ltb (i .0) (length ts)) → i .0 < length ts
           below = is-below (length ts) i
 
-          inside : Holds (ltb (i .0) (length ts)) → wordPlace n + 32 * i .0 + 32 ≤ length (laid (i .0))
+          inside : Holds (ltb (i .0) (length ts)) → wordPlace wordsBase n + 32 * i .0 + 32 ≤ length (laid (i .0))
           inside less = omega (arith, below less, long, laid-length (i .0))
 
-          all : Holds (not (ltb (i .0) (length ts))) → laid (i .0) ≡ sets xs (wordPlace n) (tableBytes ts)
-          all over = ap (λ (rs : List Record). sets xs (wordPlace n) (tableBytes rs)) (take-all (i .0) ts (nltb→le (i .0) (length ts) over))
+          all : Holds (not (ltb (i .0) (length ts))) → laid (i .0) ≡ sets xs (wordPlace wordsBase n) (tableBytes 1 ts)
+          all over = ap (λ (rs : List Record). sets xs (wordPlace wordsBase n) (tableBytes 1 rs)) (take-all (i .0) ts (nltb→le (i .0) (length ts) over))
 
     walk : ent 𝓤 (onEntry 𝓤 H A write-table.signature (κ₁, (κ, tt)) (q₁, (q, tt)) a vals) (WpFn 𝓤 H C Λ code.function (image-val ∷ vint w64 n ∷ table-val ∷ []) Post)
     unfolding tableBytes
@@ -183,7 +183,7 @@ write-table-meets 𝓤 H A W at-mem run 𝓣 known =
     walk-meets 𝓤 H A write-table.ended stayed W (goes-slice 𝓤 H A W 2 0 tt (plain (λ _. u8)), (goes-none 𝓤 H A W 2 (λ _. usize) yes (λ κs x f. refl), (goes-dropped 𝓤 H A W 2 (shrSliceOf (1 ∷ []) tt (plain (λ _. R.the-row))) yes (λ κs x f. refl), tt))) (write-table.clauses 𝓤 H A at-mem run) (WpFn 𝓤 H (𝓣 .C) (𝓣 .Λ) code.function) (WpFn-mono 𝓤 H (W .laws) 𝓣 code.function)
     (walked 𝓤 H A write-table.ended stayed (write-table.clauses 𝓤 H A at-mem run) (WpFn 𝓤 H (𝓣 .C) (𝓣 .Λ) code.function)
     (λ κs. (slice-vals, (uint-vals w64, (slice-vals, tt)))) (λ κs. (mut-slice-tells (named 0) (κs .0) u8, (uint-tells w64, (shr-slice-tells (named 1) (κs .1 .0) R.the-row, tt))))
-    (λ κs qs bounds a g are. needs 𝓤 (wordPlace (a .1 .0) + 32 * length (a .1 .1 .0 .now) ≤ length (a .0 .now)) _ (λ long. walk 𝓤 H A W at-mem run (κs .0) (κs .1 .0) (qs .0) (qs .1 .0) (a .0 .ptr .0) (a .0 .ptr .1) (a .1 .1 .0 .ptr .0) (a .1 .1 .0 .ptr .1) (a .0 .name) (a .1 .1 .0 .name) (a .0 .now) (a .1 .0) (a .1 .1 .0 .now) (are .0 .0 .1) (are .1 .0 .1) (are .1 .1 .0 .0 .1) long 𝓣 known)))
+    (λ κs qs bounds a g are. needs 𝓤 (wordPlace wordsBase (a .1 .0) + 32 * length (a .1 .1 .0 .now) ≤ length (a .0 .now)) _ (λ long. walk 𝓤 H A W at-mem run (κs .0) (κs .1 .0) (qs .0) (qs .1 .0) (a .0 .ptr .0) (a .0 .ptr .1) (a .1 .1 .0 .ptr .0) (a .1 .1 .0 .ptr .1) (a .0 .name) (a .1 .1 .0 .name) (a .0 .now) (a .1 .0) (a .1 .1 .0 .now) (are .0 .0 .1) (are .1 .0 .1) (are .1 .1 .0 .0 .1) long 𝓣 known)))
 
 pub write-table-spec : {M : Type 1} → stated.statement M
 unfolding code.routine tablesOf

@@ -1,6 +1,5 @@
 use mathlib.Core.Path.{sym, _∙_}
 use borrow.Author.Tests.{lt-ltb, le-ltb}
-use native.Mathlib.Omega.{arith}
 use Rattle.format.specs.Format.{headerRefusal}
 use Rattle.format.specs.Inside.{headerOf}
 use borrow.Author.Needs.{needs}

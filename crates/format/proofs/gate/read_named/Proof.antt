@@ -8,9 +8,8 @@ use native.Mathlib.Omega.{arith}
 use Rattle.header.specs.Header.{versionAt, partiesAt, maxAt}
 use Rattle.format.specs.Format.{headerRefusal, partyPlace}
 use Rattle.format.specs.Spelling.{isSpare}
-use Rattle.format.specs.Inside.{notNamed}
+use Rattle.format.specs.Inside.{notNamed, takenHeader}
 use Rattle.format.specs.declared.Header.{Header}
-use Rattle.format.specs.declared.Named.{Named}
 use Rattle.format.proofs.Sizes.{header-sized}
 use Rattle.format.proofs.Gated.{header-number, header-taken, named-found, refused-by-header, refused-by-operation, refused-by-party, refused-by-spare, refused-by-none}
 use borrow.Author.Needs.{needs}
@@ -34,12 +33,7 @@ party-of c = read c .before .before .args .party
 taken : (c : tie.Else1) → headerRefusal (image-of (read c)) ≡ 0
 taken c = sym (number-is (read c)) ∙ c .if1 .left
 
-header-is : (c : tie.Else1) → read c .read-header .result ≡ record {
-  number = 0;
-  version = versionAt (image-of (read c));
-  max = maxAt (image-of (read c));
-  parties = partiesAt (image-of (read c));
-}
+header-is : (c : tie.Else1) → read c .read-header .result ≡ takenHeader (image-of (read c))
 header-is c = read c .read-header .ensures ∙ header-taken (image-of (read c)) (taken c)
 
 parties-are : (c : tie.Else1) → read c .read-header .result .parties ≡ partiesAt (image-of (read c))

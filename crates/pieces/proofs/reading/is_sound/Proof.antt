@@ -17,11 +17,8 @@ mul-at-2 c = search needs
 add-at-3 : tie.Need-add-at-3
 add-at-3 c = search needs
 
-add-number-8 : tie.Need-add-number-8
-add-number-8 c = search needs
-
-number-8-requires : tie.Need-number-8-requires
-number-8-requires c κs = search needs
+is-spare-requires : tie.Need-is-spare-requires
+is-spare-requires c κs = search needs
 
 read-record-requires : tie.Need-read-record-requires
 read-record-requires c κs = search needs
@@ -30,7 +27,7 @@ is-valid-requires : tie.Need-is-valid-requires
 is-valid-requires c κs = search needs
 
 returns : tie.Need-returns
-returns c = simp (c .is-valid .ensures, c .before .read-record .ensures, c .before .before .number-8 .ensures)
+returns c = simp (c .is-valid .ensures, c .before .read-record .ensures, c .before .before .is-spare .ensures)
 
 pub is-sound-spec : {M : Type 1} → statement M
 is-sound-spec =
@@ -41,8 +38,7 @@ is-sound-spec =
     add-at-2
     mul-at-2
     add-at-3
-    add-number-8
-    number-8-requires
+    is-spare-requires
     read-record-requires
     is-valid-requires
     returns)

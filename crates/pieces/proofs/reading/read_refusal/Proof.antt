@@ -6,8 +6,12 @@ use lib.Dec.{eqb}
 use denote.Ref.{now}
 use borrow.Author.Tests.{not-true, not-false}
 use native.Mathlib.Omega.{arith}
-use Rattle.image.specs.Format.{maxAt, partiesAt, headerRefusal}
-use Rattle.image.proofs.Sizes.{header-sized}
+use Rattle.header.specs.Header.{maxAt, partiesAt}
+use Rattle.format.specs.Format.{headerRefusal}
+use Rattle.format.specs.Inside.{takenHeader}
+use Rattle.format.specs.declared.Header.{Header}
+use Rattle.format.proofs.Sizes.{header-sized}
+use Rattle.format.proofs.Gated.{header-number, header-taken}
 use Rattle.pieces.specs.Pieces.{allBelow, lentFits, isSound, agrees}
 use Rattle.pieces.proofs.Checked.{refused-by-lent, refused-by-header, refused-by-lengths, refused-by-records, refused-by-none}
 use borrow.Author.Needs.{needs}
@@ -27,17 +31,23 @@ parties-of c = c .before .before .before .before .args .parties
 fit : (c : tie.After-read-header) → lentFits (words-of c) (parties-of c) ≡ true
 fit c = sym (c .before .before .lent-fits .ensures) ∙ not-false _ (c .before .if1 .left)
 
+number-is : (c : tie.After-read-header) → c .read-header .result .number ≡ headerRefusal (image-of c)
+number-is c = ap (λ (h : Header). h .number) (c .read-header .ensures) ∙ header-number (image-of c)
+
 abbrev read-in : tie.Else2 → tie.After-read-header
 read-in c = c .before .before
 
 taken : (c : tie.Else2) → headerRefusal (image-of (read-in c)) ≡ 0
-taken c = sym (read-in c .read-header .ensures .number-read) ∙ c .if2 .left
+taken c = sym (number-is (read-in c)) ∙ c .if2 .left
+
+header-is : (c : tie.Else2) → read-in c .read-header .result ≡ takenHeader (image-of (read-in c))
+header-is c = read-in c .read-header .ensures ∙ header-taken (image-of (read-in c)) (taken c)
 
 max-is : (c : tie.Else2) → read-in c .read-header .result .max ≡ maxAt (image-of (read-in c))
-max-is c = read-in c .read-header .ensures .max-read (taken c)
+max-is c = ap (λ (h : Header). h .max) (header-is c)
 
 parties-are : (c : tie.Else2) → read-in c .read-header .result .parties ≡ partiesAt (image-of (read-in c))
-parties-are c = read-in c .read-header .ensures .parties-read (taken c)
+parties-are c = ap (λ (h : Header). h .parties) (header-is c)
 
 agree-is : (c : tie.Else2)
     → eqb (words-of (read-in c)) (read-in c .read-header .result .max + 2) && eqb (parties-of (read-in c)) (read-in c .read-header .result .parties)
@@ -72,7 +82,7 @@ read-header-requires c κs = search needs
 returns-2 : tie.Need-returns-2
 returns-2 c =
     let read = c .before .before in
-    let number = read .read-header .ensures .number-read in
+    let number = number-is read in
     number ∙ sym (refused-by-header (image-of read) (words-of read) (parties-of read) (fit read) (λ z. c .if2 .taken (number ∙ z)))
 
 cast-if3 : tie.Need-cast-if3

@@ -5,8 +5,8 @@ use Rattle.little.specs.Bytes.{numberAt}
 use lib.ListN.{length, set}
 use denote.Ref.{now}
 use native.Mathlib.Omega.{arith}
-use Rattle.image.specs.Format.{wordPlace}
-use Rattle.image.proofs.Words.{wordPart}
+use Rattle.format.specs.Format.{wordPlace, wordsBase}
+use Rattle.format.proofs.Words.{wordPart}
 use Rattle.pieces.proofs.Filled.{wordsTo, length-read, one-more-read, all-words-read}
 use Rattle.pieces.proofs.reading.read_strip.Statement.{statement}
 use Rattle.pieces.proofs.reading.read_strip.Tie as tie
@@ -20,7 +20,7 @@ abbrev μ-loop : tie.MeasureT-loop
 kept : (c : tie.At-loop Inv-loop μ-loop) → length (c .loop .strip) ≡ length (now (c .before .before .before .args .strip))
 kept c =
     let a = c .before .before .before .args in
-    ap length (c .loop .inv .1) ∙ length-read wordPart 0 (now (a .image)) (wordPlace 0) (now (a .strip)) (c .loop .i)
+    ap length (c .loop .inv .1) ∙ length-read wordPart 0 (now (a .image)) wordsBase (now (a .strip)) (c .loop .i)
 
 loop-holds : tie.Need-loop-holds Inv-loop μ-loop
 loop-holds c = (omega arith, refl)
@@ -55,8 +55,8 @@ loop-again c =
     let long = kept (c .before .before) in (
       omega (arith, long),
       ap (λ (w : ℕ). set (loop .strip) (loop .i) w) (c .number-8 .ensures)
-          ∙ ap (λ (l : List ℕ). set l (loop .i) (numberAt 8 image (wordPlace (loop .i)))) (loop .inv .1)
-          ∙ one-more-read wordPart 0 image (wordPlace 0) strip (loop .i) (omega (arith, long)),
+          ∙ ap (λ (l : List ℕ). set l (loop .i) (numberAt 8 image (wordPlace wordsBase (loop .i)))) (loop .inv .1)
+          ∙ one-more-read wordPart 0 image wordsBase strip (loop .i) (omega (arith, long)),
     )
 
 same-length : tie.Need-same-length Inv-loop μ-loop

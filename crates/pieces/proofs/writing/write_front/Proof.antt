@@ -3,9 +3,9 @@ use mathlib.Core.List.{List}
 use Prim.Native.Nat.{ℕ}
 use lib.Seq.{sets}
 use denote.Ref.{now}
-use Rattle.image.specs.Format.{wordPlace}
-use Rattle.image.specs.Spelling.{wordBytes}
+use Rattle.format.specs.Spelling.{wordBytes}
 use borrow.Author.Needs.{needs}
+use Rattle.format.specs.Format.{wordsBase}
 use Rattle.pieces.proofs.writing.write_front.Statement.{statement}
 use Rattle.pieces.proofs.writing.write_front.Tie as tie
 
@@ -32,7 +32,7 @@ returns c =
     let wrote = c .before .before in
     let laid = wrote .before .before .before .before in
     let a = laid .before .before .before .before .args in
-    wrote .write-words .ensures ∙ ap (λ (l : List ℕ). sets l (wordPlace 0) (wordBytes (now (a .strip)))) (laid .lay-header .ensures)
+    wrote .write-words .ensures ∙ ap (λ (l : List ℕ). sets l wordsBase (wordBytes (now (a .strip)))) (laid .lay-header .ensures)
 
 pub write-front-spec : {M : Type 1} → statement M
 write-front-spec =

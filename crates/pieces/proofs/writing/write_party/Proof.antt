@@ -1,10 +1,10 @@
 use mathlib.Core.Path.{_∙_, ap}
 use mathlib.Core.List.{List}
-use Prim.Native.Nat.{ℕ, _+_, _*_}
+use Prim.Native.Nat.{ℕ, _+_}
 use lib.Seq.{sets}
 use denote.Ref.{now}
 use Rattle.little.specs.Bytes.{bytesOf}
-use Rattle.image.specs.Format.{wordPlace}
+use Rattle.format.specs.Format.{wordPlace, wordsBase, recordPlace}
 use Rattle.pieces.proofs.PartyBytes.{party-laid}
 use borrow.Author.Needs.{needs}
 use Rattle.pieces.proofs.writing.write_party.Statement.{statement}
@@ -39,10 +39,10 @@ returns c =
     let put = c .before .before in
     let wrote = put .before .before .before .before in
     let a = wrote .before .before .before .args in
-    let at = wordPlace (a .words) + 32 * a .party in
+    let at = recordPlace (wordPlace wordsBase (a .words)) (a .party) in
     put .put-8 .ensures
     ∙ ap (λ (l : List ℕ). sets l (at + 24) (bytesOf 8 0)) (wrote .write-record .ensures)
-    ∙ party-laid (now (a .image)) at (a .r)
+    ∙ party-laid 1 (now (a .image)) at (a .r)
 
 pub write-party-spec : {M : Type 1} → statement M
 write-party-spec =

@@ -6,14 +6,14 @@ use lib.Seq.{sets, length-sets, take-all}
 use denote.Ref.{now}
 use native.Mathlib.Omega.{arith}
 use Rattle.little.specs.Bytes.{bytesOf}
-use Rattle.image.specs.Format.{wordPlace}
-use Rattle.image.specs.Spelling.{wordBytes}
-use Rattle.image.proofs.Laying.{one-word-more}
+use Rattle.format.specs.Format.{wordPlace, wordsBase}
+use Rattle.format.specs.Spelling.{wordBytes}
+use Rattle.format.proofs.Laying.{one-word-more}
 use Rattle.pieces.proofs.writing.write_words.Statement.{statement}
 use Rattle.pieces.proofs.writing.write_words.Tie as tie
 
 abbrev Inv-loop : tie.InvT-loop
-Inv-loop image₀ strip i₀ image i = (i ≤ length strip) × (image ≡ sets image₀ (wordPlace 0) (wordBytes (take i strip)))
+Inv-loop image₀ strip i₀ image i = (i ≤ length strip) × (image ≡ sets image₀ wordsBase (wordBytes (take i strip)))
 
 abbrev μ-loop : tie.MeasureT-loop
 μ-loop image₀ strip i₀ image i = length strip - i
@@ -21,7 +21,7 @@ abbrev μ-loop : tie.MeasureT-loop
 kept : (c : tie.At-loop Inv-loop μ-loop) → length (c .loop .image) ≡ length (now (c .before .before .before .args .image))
 kept c =
     let a = c .before .before .before .args in
-    ap length (c .loop .inv .1) ∙ length-sets (now (a .image)) (wordPlace 0) (wordBytes (take (c .loop .i) (now (a .strip))))
+    ap length (c .loop .inv .1) ∙ length-sets (now (a .image)) wordsBase (wordBytes (take (c .loop .i) (now (a .strip))))
 
 loop-holds : tie.Need-loop-holds Inv-loop μ-loop
 unfolding wordBytes
@@ -56,8 +56,8 @@ loop-again c =
     let strip = now (a .strip) in (
       omega arith,
       put .put-8 .ensures
-          ∙ ap (λ (l : List ℕ). sets l (wordPlace (loop .i)) (bytesOf 8 (getD strip (loop .i) 0))) (loop .inv .1)
-          ∙ one-word-more strip (now (a .image)) (wordPlace 0) (loop .i) (omega arith),
+          ∙ ap (λ (l : List ℕ). sets l (wordPlace wordsBase (loop .i)) (bytesOf 8 (getD strip (loop .i) 0))) (loop .inv .1)
+          ∙ one-word-more strip (now (a .image)) wordsBase (loop .i) (omega arith),
     )
 
 same-length : tie.Need-same-length Inv-loop μ-loop
@@ -67,7 +67,7 @@ returns : tie.Need-returns Inv-loop μ-loop
 returns c =
     let loop = c .before .loop in
     let a = c .before .before .before .before .args in
-    loop .inv .1 ∙ ap (λ (l : List ℕ). sets (now (a .image)) (wordPlace 0) (wordBytes l)) (take-all (loop .i) (now (a .strip)) (omega arith))
+    loop .inv .1 ∙ ap (λ (l : List ℕ). sets (now (a .image)) wordsBase (wordBytes l)) (take-all (loop .i) (now (a .strip)) (omega arith))
 
 pub write-words-spec : {M : Type 1} → statement M
 write-words-spec =
