@@ -1,5 +1,5 @@
--- An operation alters a value by two swaps: the first, at its guard, keeps the value there; the second, at its target, alters it.
--- Between the two it holds a claim.
+-- No public promise speaks of this file, nor does demand 3's theorem: proofs go by it. An operation alters a value by two swaps: the first,
+-- at its guard, keeps the value there; the second, at its target, alters it. Between the two it holds a claim.
 use Prim.Native.Nat.{ℕ}
 use mathlib.Core.Path.{_≡_}
 use mathlib.Core.List.{List}

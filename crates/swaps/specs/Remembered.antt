@@ -1,5 +1,5 @@
--- A word that was read at a place and is remembered is fresh while it still stands there. Once it is stale its counter has been
--- passed, so that it stays stale for ever.
+-- No public promise speaks of this file, nor does demand 3's theorem: proofs go by it. A word that was read at a place and is remembered
+-- is fresh while it still stands there. Once it is stale its counter has been passed, so that it stays stale for ever.
 use Prim.Native.Nat.{ℕ, _<_}
 use mathlib.Core.Path.{_≡_}
 use mathlib.Core.List.{List}
