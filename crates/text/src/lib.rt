@@ -1,12 +1,11 @@
-// Text into lent bytes, one piece behind the other. Each answers the place behind what it wrote.
+// Text into lent bytes, one piece behind the other. Each answers the place behind what it wrote, and asks that there is room.
 ghost use mathlib.Core.Path.{_≡_};
 ghost use mathlib.Core.List.{_∷_, []};
 ghost use Prim.Native.Nat.{_+_, _%_};
-ghost use Rattle.schedule.specs.Text.{digitsOf, decimal};
-ghost use Rattle.schedule.specs.Listing.{spaced};
-ghost use Rattle.schedule.specs.Writing.{Room, Puts};
+ghost use Rattle.text.specs.Text.{digitsOf, decimal, spaced};
+ghost use Rattle.text.specs.Writing.{Room, Puts};
 
-// One byte. The listing calls these where there is room.
+// One byte. Public for the listing, which knows that there is room.
 pub fn put_byte(out: &mut [u8], at: usize, byte: u8) -> usize
     requires { ⌜ Room (byte ∷ []) (now out) at ⌝ }
     ensures { λ next. ⌜ Puts (byte ∷ []) (now (out .entry)) at next (now (out .exit)) ⌝ }
@@ -15,7 +14,7 @@ pub fn put_byte(out: &mut [u8], at: usize, byte: u8) -> usize
     at + 1
 }
 
-// A text, where there is room.
+// Bytes as they stand. Public for the listing, which knows that there is room.
 pub fn put_text(out: &mut [u8], at: usize, text: &[u8]) -> usize
     requires { ⌜ Room (now text) (now out) at ⌝ }
     ensures { λ next. ⌜ Puts (now (text .entry)) (now (out .entry)) at next (now (out .exit)) ⌝ }
@@ -46,7 +45,7 @@ fn put_digits(out: &mut [u8], at: usize, most: u8, number: u32) -> usize
     put_byte(out, last, digit(number))
 }
 
-// A number in decimal, where there is room.
+// A number in decimal. Public for the listing, which knows that there is room.
 pub fn put_decimal(out: &mut [u8], at: usize, number: u32) -> usize
     requires { ⌜ Room (decimal number) (now out) at ⌝ }
     ensures { λ next. ⌜ Puts (decimal number) (now (out .entry)) at next (now (out .exit)) ⌝ }
@@ -54,7 +53,7 @@ pub fn put_decimal(out: &mut [u8], at: usize, number: u32) -> usize
     put_digits(out, at, 9, number)
 }
 
-// A space and a number, where there is room.
+// A space and a number. Public for the listing, which knows that there is room.
 pub fn put_spaced(out: &mut [u8], at: usize, number: u32) -> usize
     requires { ⌜ Room (spaced number) (now out) at ⌝ }
     ensures { λ next. ⌜ Puts (spaced number) (now (out .entry)) at next (now (out .exit)) ⌝ }

@@ -7,7 +7,7 @@ use lib.Dec.{eqb, ltb}
 use borrow.Author.Tests.{ltb-true, ne-eqb}
 use native.Mathlib.Omega.{arith}
 use native.Mathlib.Numerals.{sub-one}
-use Rattle.schedule.specs.Text.{digitsOf}
+use Rattle.text.specs.Text.{digitsOf}
 
 more-than-none : (most : ℕ) → eqb (suc most) 0 ≡ false
 more-than-none most = ne-eqb (suc most) 0 (λ e. omega arith)

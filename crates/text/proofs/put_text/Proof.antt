@@ -5,9 +5,9 @@ use lib.ListN.{length, getD, set, take, length-set}
 use lib.Seq.{sets, take-all}
 use native.Mathlib.Omega.{arith}
 use borrow.Author.Needs.{needs}
-use Rattle.schedule.proofs.Puts.{copied-one-more}
-use Rattle.schedule.proofs.text.put_text.Statement.{statement}
-use Rattle.schedule.proofs.text.put_text.Tie as tie
+use Rattle.text.proofs.Puts.{copied-one-more}
+use Rattle.text.proofs.put_text.Statement.{statement}
+use Rattle.text.proofs.put_text.Tie as tie
 
 abbrev Inv-loop : tie.InvT-loop
 Inv-loop out₀ at text i₀ out i = (i ≤ length text) × (length out ≡ length out₀) × (out ≡ sets out₀ at (take i text))

@@ -1,4 +1,5 @@
--- Text written into lent bytes.
+-- Text written into lent bytes. No public promise and no theorem about schedules rests on this file: it is what the functions that
+-- write say of themselves.
 use Prim.Native.Nat.{ℕ, _+_, _≤_}
 use mathlib.Core.Path.{_≡_}
 use mathlib.Core.List.{List}

@@ -13,3 +13,7 @@ digitsOf (suc most) number =
 -- ten digits hold 32 bits
 abbrev pub decimal : (number : ℕ) → List ℕ
 decimal number = digitsOf 9 number
+
+-- a space and a number
+abbrev pub spaced : (number : ℕ) → List ℕ
+spaced number = 32 ∷ decimal number

@@ -1,20 +1,19 @@
 use Prim.Native.Nat.{ℕ, _<_, _+_, _-_, _/_, _%_}
-use mathlib.Core.Path.{_≡_, refl, sym, _∙_, ap}
-use mathlib.Core.List.{[], _∷_, _++_}
+use mathlib.Core.Path.{refl}
 use native.Mathlib.Omega.{arith}
 use borrow.Author.Needs.{needs}
-use Rattle.schedule.specs.Text.{digitsOf}
-use Rattle.schedule.proofs.Puts.{room-left, room-right, puts-then}
-use Rattle.schedule.proofs.Digits.{last-digit, more-digits}
+use Rattle.text.specs.Text.{digitsOf}
+use Rattle.text.proofs.Puts.{room-left, room-right, puts-then}
+use Rattle.text.proofs.Digits.{last-digit, more-digits}
 use borrow.Fn.Kinds.{In}
 use borrow.Fn.PlainCycle.{Measures, is, falls, and}
-use Rattle.schedule.proofs.text.put_digits.Reads as put-digits
-use Rattle.schedule.proofs.text.put_digits.Kinds as put-digits-kinds
-use Rattle.schedule.proofs.text.+put_digits.Lts-put_digits as put-digits-lts
-use Rattle.schedule.proofs.text.put_byte.Reads as put-byte-reads
-use Rattle.schedule.proofs.text.digit.Reads as digit-reads
-use Rattle.schedule.proofs.text.+put_digits.{statement}
-use Rattle.schedule.proofs.text.+put_digits.Tie.{close}
+use Rattle.text.proofs.put_digits.Reads as put-digits
+use Rattle.text.proofs.put_digits.Kinds as put-digits-kinds
+use Rattle.text.proofs.+put_digits.Lts-put_digits as put-digits-lts
+use Rattle.text.proofs.put_byte.Reads as put-byte-reads
+use Rattle.text.proofs.digit.Reads as digit-reads
+use Rattle.text.proofs.+put_digits.{statement}
+use Rattle.text.proofs.+put_digits.Tie.{close}
 
 abbrev μ-put-digits : Measures 1 put-digits-kinds.ps ℕ
 μ-put-digits κs a = a .1 .1 .0

@@ -7,7 +7,7 @@ use lib.Seq.{sets, take-suc, length-take-le}
 use native.Mathlib.Omega.{arith}
 use native.Mathlib.Numerals.{add-one}
 use Rattle.little.proofs.Runs.{run-append}
-use Rattle.schedule.specs.Writing.{Room, Puts}
+use Rattle.text.specs.Writing.{Room, Puts}
 
 module _ (a b : List ℕ) {out : List ℕ} {at : ℕ} where
   pub room-left : Room (a ++ b) out at → Room a out at

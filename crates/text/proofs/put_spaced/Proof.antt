@@ -1,8 +1,8 @@
 use mathlib.Core.List.{[], _∷_}
-use Rattle.schedule.proofs.Puts.{puts-then}
+use Rattle.text.proofs.Puts.{puts-then}
 use borrow.Author.Needs.{needs}
-use Rattle.schedule.proofs.text.put_spaced.Statement.{statement}
-use Rattle.schedule.proofs.text.put_spaced.Tie as tie
+use Rattle.text.proofs.put_spaced.Statement.{statement}
+use Rattle.text.proofs.put_spaced.Tie as tie
 
 put-byte-requires : tie.Need-put-byte-requires
 put-byte-requires c κs = search needs
