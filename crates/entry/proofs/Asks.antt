@@ -1,12 +1,13 @@
 -- What an entry asks for, act by act.
 use Prim.Native.Nat.{ℕ}
-use mathlib.Core.Path.{_≡_}
+use mathlib.Core.Path.{_≡_, refl}
 use mathlib.Core.Bool.{Bool, true, false, not}
 use mathlib.Core.List.{List}
 use lib.Dec.{eqb}
 use borrow.Author.Tests.{eq-eqb, ne-eqb, not-true, not-false}
 use Rattle.logic.specs.Pick.{pick}
-use Rattle.step.specs.Call.{Call}
+use Rattle.logic.proofs.Bools.{whichever}
+use Rattle.step.specs.Call.{Call, partyOf}
 use Rattle.entry.specs.Entry.{actAt, partyAt, operationAt, zeroAt, wordAt, isKnown, unknown, callAt}
 
 module _ (bytes : List ℕ) (at number : ℕ) (known : Bool) (reads : number ≡ wordAt bytes at)
@@ -41,3 +42,13 @@ module _ (bytes : List ℕ) (at number : ℕ) (known : Bool) (reads : number ≡
   unfolding by-tests
   asks-withdraw e starts steps =
       rw (← is-by-tests, not-false known e, ne-eqb (actAt bytes at) 0 starts, ne-eqb (actAt bytes at) 1 steps)
+
+-- The party is the entry's byte, whatever the entry asks for.
+pub party-is : (bytes : List ℕ) (at : ℕ) → partyOf (callAt bytes at) ≡ partyAt bytes at
+unfolding callAt
+party-is bytes at =
+    whichever P (isKnown (actAt bytes at) (operationAt bytes at) (zeroAt bytes at) (wordAt bytes at))
+    (whichever P (eqb (actAt bytes at) 0) refl (whichever P (eqb (actAt bytes at) 1) refl refl)) refl
+  where
+    P : Call → Type 0
+    P call = partyOf call ≡ partyAt bytes at

@@ -1,10 +1,9 @@
 use mathlib.Core.Path.{sym, _∙_}
-use Rattle.party.proofs.Gives.{gives}
 use Rattle.step.proofs.Called.{past-gate}
-use Rattle.schedule.proofs.Turns.{turned-away, let-through}
+use Rattle.entry.proofs.OnRecord.{turned-away, let-through}
 use borrow.Author.Needs.{needs}
-use Rattle.schedule.proofs.run.answered.Statement.{statement}
-use Rattle.schedule.proofs.run.answered.Tie as tie
+use Rattle.entry.proofs.on_record.Statement.{statement}
+use Rattle.entry.proofs.on_record.Tie as tie
 
 gate-of-requires : tie.Need-gate-of-requires
 gate-of-requires c κs = search needs
@@ -18,7 +17,7 @@ returns c =
     let a = asked .before .before .args in
     let gate = asked .gate-of .ensures in
     let away = turned-away (a .strip .now) (a .parties) (a .r) _ (λ e. c .before .if1 .taken (gate ∙ e)) in
-    (rw (away .0, ← gate) (gives (c .refused-with .ensures)), sym (away .1))
+    (rw (away .0, ← gate) (c .refused-with .ensures), sym (away .1))
 
 own-requires : tie.Need-own-requires
 own-requires c κs =
@@ -36,7 +35,7 @@ returns-2 c =
     let through = let-through (a .strip .now) (a .parties) (a .r) _ (sym (asked .gate-of .ensures) ∙ call .before .before .if1 .left) in
     rw (through .0, through .1) (call .own .ensures .0, call .own .ensures .1)
 
-pub answered-spec : {M : Type 1} → statement M
-answered-spec =
+pub on-record-spec : {M : Type 1} → statement M
+on-record-spec =
     tie.close
     (tie.spec gate-of-requires refused-with-requires returns own-requires same-length returns-2)

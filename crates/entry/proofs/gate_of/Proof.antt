@@ -1,7 +1,7 @@
 use Rattle.step.specs.Call.{gate}
 use borrow.Author.Needs.{needs}
-use Rattle.schedule.proofs.run.gate_of.Statement.{statement}
-use Rattle.schedule.proofs.run.gate_of.Tie as tie
+use Rattle.entry.proofs.gate_of.Statement.{statement}
+use Rattle.entry.proofs.gate_of.Tie as tie
 
 is-unknown-requires : tie.Need-is-unknown-requires
 is-unknown-requires c κs = search needs

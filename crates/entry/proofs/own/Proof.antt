@@ -4,8 +4,8 @@ use native.Mathlib.Omega.{arith}
 use lib.ListN.{length}
 use Rattle.step.proofs.Cleared.{strip-within}
 use borrow.Author.Needs.{needs}
-use Rattle.schedule.proofs.run.own.Statement.{statement}
-use Rattle.schedule.proofs.run.own.Tie as tie
+use Rattle.entry.proofs.own.Statement.{statement}
+use Rattle.entry.proofs.own.Tie as tie
 
 sub-max : tie.Need-sub-max
 sub-max c = omega (arith, strip-within (length (now (c .before .args .strip))) (c .before .pre))

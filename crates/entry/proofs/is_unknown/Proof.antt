@@ -1,6 +1,6 @@
 use borrow.Author.Needs.{needs}
-use Rattle.schedule.proofs.run.is_unknown.Statement.{statement}
-use Rattle.schedule.proofs.run.is_unknown.Tie as tie
+use Rattle.entry.proofs.is_unknown.Statement.{statement}
+use Rattle.entry.proofs.is_unknown.Tie as tie
 
 enum-known-e : tie.Need-enum-known-e
 enum-known-e c = search needs

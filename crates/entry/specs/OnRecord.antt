@@ -1,0 +1,18 @@
+-- A call on a strip and its party's own record, one of so many parties: what it answers, the record it gives back and the words it
+-- leaves.
+use Prim.Native.Nat.{ℕ}
+use mathlib.Core.List.{List}
+use lib.ListN.{length}
+use lib.Dec.{eqb}
+use Rattle.logic.specs.Pick.{pick}
+use Rattle.party.specs.Answer.{unless}
+use Rattle.party.specs.declared.Record.{Record}
+use Rattle.party.specs.declared.Answered.{Answered}
+use Rattle.step.specs.Call.{Call, gate, ownOf, ownLeaves}
+
+-- refused before the record is looked at, or what the call does with it
+unfoldable pub onRecordOf : (strip : List ℕ) (parties : ℕ) → Record → Call → Answered
+onRecordOf strip parties r call = unless (gate (length strip) parties call) r (ownOf strip r call)
+
+unfoldable pub onRecordLeaves : (strip : List ℕ) (parties : ℕ) → Record → Call → List ℕ
+onRecordLeaves strip parties r call = pick (eqb (gate (length strip) parties call) 0) (ownLeaves strip r call) strip
