@@ -1,7 +1,6 @@
-use mathlib.Core.Path.{refl}
 use borrow.Author.Needs.{needs}
-use Rattle.schedule.proofs.run.told.Statement.{statement}
-use Rattle.schedule.proofs.run.told.Tie as tie
+use Rattle.run.proofs.told.Statement.{statement}
+use Rattle.run.proofs.told.Tie as tie
 
 number-requires : tie.Need-number-requires
 number-requires c κs = search needs
@@ -19,14 +18,7 @@ returns : tie.Need-returns
 returns c =
     let effect = c .before in
     let carried = effect .before in
-    let number = carried .before .number .ensures in
-    record {
-      number = number;
-      carried = carried .carried .ensures;
-      effect = rw (← number) (effect .pick-u32 .ensures);
-      rec = refl;
-      look = rw (← number) (c .pick-u322 .ensures);
-    }
+    simp (c .pick-u322 .ensures, effect .pick-u32 .ensures, carried .carried .ensures, carried .before .number .ensures)
 
 pub told-spec : {M : Type 1} → statement M
 told-spec =

@@ -14,10 +14,11 @@ use Rattle.party.specs.declared.Record.{Record}
 use Rattle.party.proofs.Refusals.{checked-is-small}
 use Rattle.step.specs.Call.{Call, partyOf, gate}
 use Rattle.step.proofs.Called.{gate-checked, past-gate, call-through, call-away}
+use Rattle.entry.specs.OnRecord.{onRecordLeaves}
+use Rattle.entry.proofs.OnRecord.{turned-away, let-through}
 use Rattle.history.specs.Run.{State, lineOf, leaves}
-use Rattle.schedule.specs.Turn.{TurnPromise, lineIn, partyIn16}
-use Rattle.schedule.specs.declared.Turn.{Turn}
-use Rattle.schedule.proofs.Turns.{turned-away, let-through}
+use Rattle.run.specs.Turn.{turnOf, lineIn, partyIn16}
+use Rattle.run.specs.declared.Turn.{Turn}
 
 -- the state of the run, of which the arrays hold the first `parties`
 abbrev pub stateOf : (parties : ℕ) (strip : List ℕ) (table : List Record) (looks : List ℕ) → State
@@ -38,61 +39,52 @@ module _ (parties : ℕ) (strip : List ℕ) (table : List Record) (looks : List 
   same-gate : gate (length strip) (length (take parties table)) call ≡ gate (length strip) parties call
   same-gate = ap (λ (n : ℕ). gate (length strip) n call) (length-take-le parties table (omega arith))
 
+  -- what the entry comes to with place j of both arrays, and what it leaves of them
+  abbrev pub turnAt : (j : ℕ) → Turn
+  turnAt j = turnOf strip parties (getD table j idle) (getD looks j 0) entry call
+
+  abbrev pub EntersAt : (j : ℕ) → Type 0
+  EntersAt j =
+      Enters (stateOf parties strip table looks) entry call (turnAt j)
+      (stateOf parties (onRecordLeaves strip parties (getD table j idle) call) (set table j (turnAt j .rec)) (set looks j (turnAt j .look)))
+
   -- let through, with the party's place
-  enters-through : gate (length strip) parties call ≡ 0 → (got : Turn) (left : List ℕ)
-      → TurnPromise strip parties (getD table (partyOf call) idle) (getD looks (partyOf call) 0) entry call got left
-      → Enters (stateOf parties strip table looks) entry call got
-      (stateOf parties left (set table (partyOf call) (got .rec)) (set looks (partyOf call) (got .look)))
+  enters-through : gate (length strip) parties call ≡ 0 → EntersAt (partyOf call)
   unfolding lineOf leaves
-  enters-through clear got left promise =
+  enters-through clear =
       let p = partyOf call in
       let at = past-gate (length strip) parties call clear .party-known in
       let own = let-through strip parties (getD table p idle) call clear in
-      let f = rw (own .0) at (promise .follows) in
       let calls = call-through strip (take parties table) call (same-gate ∙ clear) in
       let rec-is = getD-take parties table p idle at in
       let look-is = getD-take parties looks p 0 at in
       record {
-        line = rw (calls, rec-is, look-is, f .number, f .carried, f .effect);
-        state = rw (calls, rec-is, pick-set, look-is, promise .words ∙ own .1, f .rec, f .look, take-set-lt, take-set-lt);
+        line = rw (calls, rec-is, look-is, own .0);
+        state = rw (calls, rec-is, pick-set, look-is, own .0, own .1, take-set-lt, take-set-lt);
       }
 
   -- turned away, with any place
-  enters-away : (gate (length strip) parties call ≡ 0 → ⊥) → (j : ℕ) (got : Turn) (left : List ℕ)
-      → TurnPromise strip parties (getD table j idle) (getD looks j 0) entry call got left
-      → Enters (stateOf parties strip table looks) entry call got
-      (stateOf parties left (set table j (got .rec)) (set looks j (got .look)))
+  enters-away : (gate (length strip) parties call ≡ 0 → ⊥) → (j : ℕ) → EntersAt j
   unfolding lineOf leaves
-  enters-away barred j got left promise =
+  enters-away barred j =
       let away = turned-away strip parties (getD table j idle) call barred in
-      let f = rw (away .0) at (promise .follows) in
       let calls = call-away strip (take parties table) call (λ e. barred (sym same-gate ∙ e)) in
       let small = checked-is-small (gate-checked (length strip) parties call) in
       let no-full = ne-eqb (gate (length strip) parties call) 18 (λ e. omega arith) in
       let no-empty = ne-eqb (gate (length strip) parties call) 19 (λ e. omega arith) in
       let no-going = ne-eqb (gate (length strip) parties call) 0 barred in
       record {
-        line = rw (calls, same-gate, f .number, f .carried, f .effect, no-full, no-empty);
-        state = rw (calls, same-gate, promise .words ∙ away .1, f .rec, f .look, no-going, and-false, set-getD, set-getD);
+        line = rw (calls, same-gate, away .0, no-full, no-empty);
+        state = rw (calls, same-gate, away .0, away .1, no-going, and-false, set-getD, set-getD);
       }
 
-  pub enters : (got : Turn) (left : List ℕ)
-      → TurnPromise strip parties (getD table (partyIn16 call) idle) (getD looks (partyIn16 call) 0) entry call got left
-      → Enters (stateOf parties strip table looks) entry call got
-      (stateOf parties left (set table (partyIn16 call) (got .rec)) (set looks (partyIn16 call) (got .look)))
-  enters got left promise = go (eqb (gate (length strip) parties call) 0) refl
+  pub enters : EntersAt (partyIn16 call)
+  enters = go (eqb (gate (length strip) parties call) 0) refl
     where
-      At : ℕ → Type 0
-      At j = TurnPromise strip parties (getD table j idle) (getD looks j 0) entry call got left
-          → Enters (stateOf parties strip table looks) entry call got
-          (stateOf parties left (set table j (got .rec)) (set looks j (got .look)))
-
-      go : (clear : Bool) → eqb (gate (length strip) parties call) 0 ≡ clear
-          → Enters (stateOf parties strip table looks) entry call got
-          (stateOf parties left (set table (partyIn16 call) (got .rec)) (set looks (partyIn16 call) (got .look)))
+      go : (clear : Bool) → eqb (gate (length strip) parties call) 0 ≡ clear → EntersAt (partyIn16 call)
       go true e =
           let clear = eqb-true (gate (length strip) parties call) 0 e in
           let at = past-gate (length strip) parties call clear .party-known in
           let place : partyOf call ≡ partyIn16 call = omega arith in
-          subst At place (enters-through clear got left) promise
-      go false e = enters-away (eqb-false (gate (length strip) parties call) 0 e) (partyIn16 call) got left promise
+          subst EntersAt place (enters-through clear)
+      go false e = enters-away (eqb-false (gate (length strip) parties call) 0 e) (partyIn16 call)
