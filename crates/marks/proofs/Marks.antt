@@ -16,14 +16,14 @@ use Rattle.history.specs.Finished.{finishedFrom}
 use Rattle.marks.specs.Seen.{seenFrom}
 use Rattle.marks.specs.Replay.{allSame, replays}
 use Rattle.little.specs.Bytes.{numberAt}
+use Rattle.text.specs.Text.{digitsOf}
 use Rattle.entry.specs.Entry.{callAt}
+use Rattle.listing.specs.Listing.{listingText, linesText, wordsText}
 use Rattle.schedule.specs.File.{callsFrom}
-use Rattle.schedule.specs.Text.{digitsOf}
-use Rattle.schedule.specs.Listing.{listingOf, linesText, wordsText}
 use Rattle.marks.specs.Marks.{allHold, marks, prints}
 
 pub the-marks-hold : allHold marks && prints ≡ true
 unfolding validOf startOwn startRefusal startOf accessOf judgeOf recheckOf stepOwn stepRefusal stepOf stepLeaves gate callOf
     measure.runOf measureOf play atEntry inOrder lineOf leaves linesFrom endFrom finishedFrom seenFrom allSame replays allHold
-    numberAt callAt callsFrom digitsOf listingOf linesText wordsText
+    numberAt callAt callsFrom digitsOf listingText linesText wordsText
 the-marks-hold = refl

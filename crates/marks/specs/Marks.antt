@@ -8,7 +8,7 @@ use Rattle.step.specs.Call.Call.{start, step}
 use Rattle.strip.specs.Lay.{freshStrip}
 use Rattle.strip.specs.Measure.{measureOf, measuredLeft}
 use Rattle.history.specs.Run.{begin, linesFrom, endFrom}
-use Rattle.schedule.specs.Listing.{listingOf}
+use Rattle.schedule.specs.List.{listingOf}
 use Rattle.marks.specs.Fight.{fight, fightText}
 use Rattle.marks.specs.Seen.{Row, goes, refuses, ends, sameRow, seenFrom}
 use Rattle.marks.specs.Replay.{allSame, isExplained}

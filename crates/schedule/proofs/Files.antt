@@ -1,25 +1,26 @@
 -- What is known of a schedule file that no check refused, and that its listing has room in the longest.
-use Prim.Native.Nat.{ℕ, _+_, _-_, _%_, _≤_, _<_}
-use mathlib.Core.Path.{_≡_, _∙_, ap}
+use Prim.Native.Nat.{ℕ, zero, suc, _+_, _-_, _%_, _≤_, _<_}
+use mathlib.Core.Path.{_≡_, refl, _∙_, ap}
 use mathlib.Core.Bool.{not, _&&_}
 use mathlib.Core.List.{List, _++_}
-use lib.ListN.{length, getD, replicate, length-append, length-replicate, getD-replicate}
+use lib.ListN.{length, getD}
 use lib.Dec.{eqb, leb, ltb}
 use borrow.Author.Tests.{ltb-false, leb-true, le-leb, eqb-true, not-false}
 use native.Mathlib.Omega.{arith}
 use Rattle.logic.specs.Every.{Every}
 use Rattle.logic.proofs.Bools.{both, passed}
+use Rattle.text.specs.Writing.{Room}
 use Rattle.party.specs.Calls.{maxFits}
 use Rattle.step.specs.Call.{tableFits}
 use Rattle.strip.specs.Lay.{freshStrip, layRefusal, layLeaves, LayPromise}
 use Rattle.strip.specs.declared.Laid.{Laid}
-use Rattle.strip.proofs.Laying.{fresh-length, laid-leaves}
-use Rattle.history.specs.Run.{endFrom}
-use Rattle.schedule.specs.File.{isMarked, partiesAt, maxAt, divideAt, entriesOf, lengthFits, fileRefusal, callsOf}
-use Rattle.schedule.specs.Listing.{firstState, runText, headerText, cellsText, listingOf}
-use Rattle.schedule.specs.List.{longest}
-use Rattle.schedule.specs.Writing.{Room}
-use Rattle.schedule.proofs.Longest.{Early, run-length, header-length, words-length}
+use Rattle.strip.proofs.Laying.{laid-leaves}
+use Rattle.entry.proofs.Asks.{party-is}
+use Rattle.history.specs.Run.{noCall, endFrom}
+use Rattle.listing.specs.Listing.{runText, headerText, cellsText, listingText, longest}
+use Rattle.listing.proofs.Longest.{Narrow, no-listing-is-longer}
+use Rattle.schedule.specs.File.{isMarked, partiesAt, maxAt, divideAt, entriesOf, lengthFits, fileRefusal, callsFrom, callsOf}
+use Rattle.schedule.specs.List.{listingOf, firstOf}
 
 pub record Listable (file : List ℕ) : Type 0 where
   pub headed : 10 ≤ length file
@@ -61,36 +62,39 @@ unfolding layRefusal
 lays file words l same =
     simp (le-leb 3 words (omega arith), le-leb words 4096 (omega arith), le-leb (divideAt file) (words - 2) (omega arith))
 
-none-early : (n : ℕ) → Every Early 0 (replicate n 0)
-none-early n i within =
-    rw (getD-replicate {A = ℕ} n i 0 0 (rw (length-replicate {A = ℕ} n 0) at within)) (omega arith)
+calls-count : (file : List ℕ) (at count : ℕ) → length (callsFrom file at count) ≡ count
+unfolding callsFrom
+calls-count file at zero = refl
+calls-count file at (suc count) = ap suc (calls-count file (at + 8) count)
 
--- The longest is long enough.
-pub no-listing-is-longer : (file : List ℕ) → fileRefusal file ≡ 0 → ((i : ℕ) → getD file i 0 < 256) → length (listingOf file) ≤ longest
-unfolding listingOf
-no-listing-is-longer file e bytes =
-    let l = listable file e in
-    let run = run-length file bytes (entriesOf file) 10 0 (firstState file) (none-early (partiesAt file)) (omega arith) in
-    let header = header-length (maxAt file) (divideAt file) (partiesAt file) (omega arith) (omega arith) (omega arith) in
-    let fresh = fresh-length (maxAt file) (divideAt file) (l .inside) in
-    let end = endFrom (firstState file) 0 (callsOf file) .strip in
-    let words = words-length end in
-    let text = headerText (maxAt file) (divideAt file) (partiesAt file) in
-    let lines = runText (firstState file) 0 (callsOf file) in
-    omega (arith, length-append text (lines ++ cellsText end), length-append lines (cellsText end), run .0, run .1)
+-- What is said of a file's listing holds of bytes.
+module _ (file : List ℕ) (passes : fileRefusal file ≡ 0) (bytes : (i : ℕ) → getD file i 0 < 256) where
+  -- the party of an entry is a byte
+  calls-narrow : (at count : ℕ) → Every Narrow noCall (callsFrom file at count)
+  unfolding callsFrom
+  calls-narrow at zero i within = absurd (omega arith)
+  calls-narrow at (suc count) zero within = rw (party-is file at) (bytes (at + 1))
+  calls-narrow at (suc count) (suc i) within = calls-narrow (at + 8) count i (omega arith)
+
+  -- The longest is long enough.
+  pub the-listing-fits : length (listingOf file) ≤ longest
+  the-listing-fits =
+      let l = listable file passes in
+      no-listing-is-longer (maxAt file) (divideAt file) (partiesAt file) (callsOf file) (l .max-high) (l .inside) (l .parties-high)
+      (rw (calls-count file 10 (entriesOf file)) (l .few)) (calls-narrow 10 (entriesOf file))
+
+  -- the room that a listing wants, piece by piece
+  pub room-to-list : (out : List ℕ) → longest ≤ length out
+      → Room
+      (headerText (maxAt file) (divideAt file) (partiesAt file)
+      ++ (runText (firstOf file) 0 (callsOf file) ++ cellsText (endFrom (firstOf file) 0 (callsOf file) .strip))) out 0
+  unfolding listingText
+  room-to-list out long = record { fits = omega (arith, the-listing-fits) }
 
 -- the strip that was laid is the run's first
 pub laid-fresh : (file strip : List ℕ) (divide : ℕ) {got : Laid} {left : List ℕ} → Listable file → length strip ≡ maxAt file + 2
-    → divide ≡ divideAt file → LayPromise strip divide got left → left ≡ firstState file .strip
+    → divide ≡ divideAt file → LayPromise strip divide got left → left ≡ firstOf file .strip
 laid-fresh file strip divide l same is laid =
     let max : length strip - 2 ≡ maxAt file = omega arith in
     laid .words ∙ ap (layLeaves strip) is ∙ laid-leaves strip (divideAt file) (lays file (length strip) l same)
     ∙ ap (λ (n : ℕ). freshStrip n (divideAt file)) max
-
--- the room that a listing wants, piece by piece
-pub room-to-list : (file out : List ℕ) → fileRefusal file ≡ 0 → ((i : ℕ) → getD file i 0 < 256) → longest ≤ length out
-    → Room
-    (headerText (maxAt file) (divideAt file) (partiesAt file)
-    ++ (runText (firstState file) 0 (callsOf file) ++ cellsText (endFrom (firstState file) 0 (callsOf file) .strip))) out 0
-unfolding listingOf
-room-to-list file out e bytes long = record { fits = omega (arith, no-listing-is-longer file e bytes) }

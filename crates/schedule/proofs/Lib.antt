@@ -1,11 +1,4 @@
-pub mod Puts
-pub mod Digits
-pub mod Turns
-pub mod Words
-pub mod Entering
 pub mod Running
-pub mod Bounds
-pub mod Longest
 pub mod Files
 pub mod Refusing
 pub mod Kept

@@ -1,6 +1,6 @@
 -- List refused, and list let through.
 use Prim.Native.Nat.{ℕ, _+_, _≤_}
-use mathlib.Core.Path.{_≡_, sym, _∙_, ap}
+use mathlib.Core.Path.{_≡_, _∙_, ap}
 use mathlib.Core.Bool.{not, _&&_}
 use mathlib.Core.List.{List, _++_}
 use lib.ListN.{length, drop}
@@ -10,10 +10,10 @@ use borrow.Author.Tests.{eqb-true, leb-true, eq-eqb, ne-eqb, not-false}
 use native.Mathlib.Omega.{arith}
 use native.Mathlib.Nat.{zero-add}
 use Rattle.logic.proofs.Bools.{both, passed}
+use Rattle.text.specs.Writing.{Puts}
+use Rattle.listing.specs.Listing.{longest}
 use Rattle.schedule.specs.File.{maxAt, fileRefusal}
-use Rattle.schedule.specs.Listing.{listingOf}
-use Rattle.schedule.specs.Writing.{Puts}
-use Rattle.schedule.specs.List.{longest, listRefusal, wordsAtEnd, ListPromise}
+use Rattle.schedule.specs.List.{listRefusal, listingOf, wordsAtEnd, ListPromise}
 
 pub record Clear (file : List ℕ) (words room : ℕ) : Type 0 where
   pub whole : words ≡ 4096
@@ -32,7 +32,7 @@ module _ (file strip out : List ℕ) where
       → ListPromise file strip out (record { number = number; length = 0 }) strip out
   when-refused number is refused =
       let test = ne-eqb (listRefusal file (length strip) (length out)) 0 (λ e. refused (is ∙ e)) in
-      record { number = is; long = rw test; words-left = rw test; bytes-left = rw test }
+      record { gives = rw (← is, ne-eqb number 0 refused); words-left = rw test; bytes-left = rw test }
 
   pub when-listed : listRefusal file (length strip) (length out) ≡ 0 → length (listingOf file) ≤ longest
       → (next : ℕ) (left : List ℕ) → Puts (listingOf file) out 0 next left
@@ -41,8 +41,7 @@ module _ (file strip out : List ℕ) where
       let c = clear file (length strip) (length out) passes in
       let test = eq-eqb (listRefusal file (length strip) (length out)) 0 passes in
       record {
-        number = sym passes;
-        long = rw test (omega arith);
+        gives = rw (passes, puts .behind, zero-add);
         words-left = rw test;
         bytes-left = rw test (puts .bytes ∙ sets-eq (listingOf file) out 0 (omega arith) ∙ ap (λ (n : ℕ). listingOf file ++ drop n out) (zero-add (length (listingOf file))));
       }

@@ -8,15 +8,16 @@ use native.Mathlib.Numerals.{add-one}
 use Rattle.party.specs.Record.{idle}
 use Rattle.party.specs.declared.Record.{Record}
 use Rattle.step.specs.Call.{Call}
+use Rattle.text.specs.Writing.{Puts}
+use Rattle.text.proofs.Puts.{Rest, rest-begins, rest-goes-on, rest-ends, puts-nothing}
 use Rattle.entry.specs.Entry.{callAt}
+use Rattle.entry.specs.OnRecord.{onRecordLeaves}
 use Rattle.history.specs.Run.{State, begin, lineOf, leaves, linesFrom, endFrom}
+use Rattle.run.specs.Turn.{turnOf, lineIn, partyIn16}
+use Rattle.run.specs.declared.Turn.{Turn}
+use Rattle.run.proofs.Entering.{stateOf, enters}
+use Rattle.listing.specs.Listing.{lineText, linesText, runText}
 use Rattle.schedule.specs.File.{callsFrom}
-use Rattle.schedule.specs.Turn.{TurnPromise, lineIn, partyIn16}
-use Rattle.schedule.specs.Listing.{lineText, linesText, runText}
-use Rattle.schedule.specs.Writing.{Puts}
-use Rattle.schedule.specs.declared.Turn.{Turn}
-use Rattle.schedule.proofs.Puts.{Rest, rest-begins, rest-goes-on, rest-ends, puts-nothing}
-use Rattle.schedule.proofs.Entering.{stateOf, enters}
 
 -- the calls from entry i on
 abbrev pub callsLeft : (file : List ℕ) (count i : ℕ) → List Call
@@ -59,14 +60,14 @@ pub record Moves (s next : State) (entry : ℕ) (calls rest : List Call) (line :
 module _ (file : List ℕ) (parties count : ℕ) (strip : List ℕ) (table : List Record) (looks : List ℕ) (i : ℕ)
     (few : parties ≤ 16) (table-16 : length table ≡ 16) (looks-16 : length looks ≡ 16) (more : i < count) where
   pub moves : (call : Call) → call ≡ callAt file (10 + 8 * i) → (j : ℕ) → j ≡ partyIn16 call → (got : Turn) (left : List ℕ)
-      → TurnPromise strip parties (getD table j idle) (getD looks j 0) i call got left
+      → got ≡ turnOf strip parties (getD table j idle) (getD looks j 0) i call → left ≡ onRecordLeaves strip parties (getD table j idle) call
       → Moves (stateOf parties strip table looks) (stateOf parties left (set table j (got .rec)) (set looks j (got .look)))
       i (callsLeft file count i) (callsLeft file count (i + 1)) (lineText i call (lineIn got))
-  moves call is j slot got left promise =
-      let e = enters parties strip table looks i call few table-16 looks-16 got left (rw slot at promise) in
+  moves call is j slot got left tells words =
+      let e = enters parties strip table looks i call few table-16 looks-16 in
       record {
-        text = rw (calls-more file count i more, ← is, text-of, e .line, e .state, slot);
-        end = rw (calls-more file count i more, ← is, end-of, e .state, slot);
+        text = rw (calls-more file count i more, ← is, text-of, e .line, e .state, tells, words, slot);
+        end = rw (calls-more file count i more, ← is, end-of, e .state, tells, words, slot);
       }
 
 module _ (file first : List ℕ) (parties count : ℕ) (empty : List ℕ) (from : ℕ) where

@@ -6,27 +6,32 @@ use mathlib.Core.List.{List, _++_}
 use lib.ListN.{length, drop}
 use lib.Dec.{eqb, leb}
 use Rattle.logic.specs.Pick.{pick}
-use Rattle.history.specs.Run.{endFrom}
-use Rattle.schedule.specs.File.{maxAt, fileRefusal, callsOf}
-use Rattle.schedule.specs.Listing.{firstState, listingOf}
+use Rattle.history.specs.Run.{State, endFrom}
+use Rattle.listing.specs.Listing.{firstState, listingText, longest}
+use Rattle.schedule.specs.File.{partiesAt, maxAt, divideAt, fileRefusal, callsOf}
 use Rattle.schedule.specs.declared.Listed.{Listed}
-
--- no listing is longer
-abbrev pub longest : ℕ
-longest = 147489
 
 -- the strip is lent at its longest and the listing has room, whatever the file; then the file's own checks
 unfoldable pub listRefusal : (file : List ℕ) (words room : ℕ) → ℕ
 listRefusal file words room = pick (not (eqb words 4096 && leb longest room)) 1 (fileRefusal file)
 
+abbrev pub listingOf : (file : List ℕ) → List ℕ
+listingOf file = listingText (maxAt file) (divideAt file) (partiesAt file) (callsOf file)
+
+abbrev pub firstOf : (file : List ℕ) → State
+firstOf file = firstState (maxAt file) (divideAt file) (partiesAt file)
+
 -- the strip's words after the last entry
 unfoldable pub wordsAtEnd : (file : List ℕ) → List ℕ
-wordsAtEnd file = endFrom (firstState file) 0 (callsOf file) .strip
+wordsAtEnd file = endFrom (firstOf file) 0 (callsOf file) .strip
 
--- What list promises: the number, the listing's length, and every word and byte it was lent. A refusal alters none.
+-- the number, and the listing's length, 0 with a refusal
+abbrev pub listedOf : (file : List ℕ) (number : ℕ) → Listed
+listedOf file number = record { number = number; length = pick (eqb number 0) (length (listingOf file)) 0 }
+
+-- What list promises: its answer, and every word and byte it was lent. A refusal alters none.
 pub record ListPromise (file strip out : List ℕ) (got : Listed) (words bytes : List ℕ) : Type 0 where
-  pub number : got .number ≡ listRefusal file (length strip) (length out)
-  pub long : got .length ≡ pick (eqb (listRefusal file (length strip) (length out)) 0) (length (listingOf file)) 0
+  pub gives : got ≡ listedOf file (listRefusal file (length strip) (length out))
   -- the strip of MAX+2 words, then what was lent beyond it
   pub words-left : words ≡ pick (eqb (listRefusal file (length strip) (length out)) 0)
       (wordsAtEnd file ++ drop (maxAt file + 2) strip) strip

@@ -1,25 +1,16 @@
 // The run: one entry after the other, each with its line.
-use crate::lines::put_line;
-use crate::run::party_of;
-use crate::run::turn;
-use entry::Entry;
 use entry::read;
+use listing::put_line;
 use party::make::idle_record;
+use run::party_in_16;
+use run::take_turn;
 ghost use mathlib.Core.Path.{_≡_};
 ghost use Prim.Native.Nat.{_+_, _*_, _≤_};
 ghost use lib.ListN.{length};
-ghost use Rattle.entry.specs.Entry.{askedOf};
+ghost use Rattle.text.specs.Writing.{Room, Puts};
 ghost use Rattle.history.specs.Run.{begin, endFrom};
+ghost use Rattle.listing.specs.Listing.{runText};
 ghost use Rattle.schedule.specs.File.{callsFrom};
-ghost use Rattle.schedule.specs.Turn.{partyIn16};
-ghost use Rattle.schedule.specs.Listing.{runText};
-ghost use Rattle.schedule.specs.Writing.{Room, Puts};
-
-fn party_in_16(e: Entry) -> usize
-    ensures { λ p. ⌜ p ≡ partyIn16 (askedOf e) ⌝ }
-{
-    party_of(e) as usize % 16
-}
 
 // The entries of a file that list has checked, on a strip with every party idle.
 pub fn run_entries(
@@ -47,7 +38,7 @@ pub fn run_entries(
         let p = party_in_16(e);
         let r = table[p];
         let look = looks[p];
-        let t = turn(strip, parties, r, look, i as u32, e);
+        let t = take_turn(strip, parties, r, look, i as u32, e);
         let rec = t.rec;
         table[p] = rec;
         looks[p] = t.look;

@@ -1,36 +1,23 @@
 // The schedule file, its run and its listing.
 mod checks;
 mod entries;
-mod lines;
-mod run;
-mod text;
 
 use crate::checks::list_refusal;
 use crate::entries::run_entries;
-use crate::lines::put_cells;
-use crate::lines::put_header;
+use listing::put_cells;
+use listing::put_header;
 use little::number_2;
-use party::Record;
 use strip::lay;
 ghost use mathlib.Core.Path.{_≡_};
 ghost use Prim.Native.Nat.{_+_, _≤_};
 ghost use lib.ListN.{length};
+ghost use Rattle.text.specs.Writing.{Puts};
+ghost use Rattle.listing.specs.Listing.{longest};
 ghost use Rattle.schedule.specs.File.{maxAt, fileRefusal};
-ghost use Rattle.schedule.specs.Listing.{listingOf};
-ghost use Rattle.schedule.specs.Writing.{Puts};
-ghost use Rattle.schedule.specs.List.{longest, wordsAtEnd, ListPromise};
+ghost use Rattle.schedule.specs.List.{listingOf, wordsAtEnd, ListPromise};
 
 // No listing is longer.
 pub const LONGEST: usize = 147489;
-
-// What one entry came to: its line, and the record and the last look that its party is left with.
-pub struct Turn {
-    pub number: u32,
-    pub carried: u32,
-    pub effect: u32,
-    pub rec: Record,
-    pub look: u32,
-}
 
 // What list answers: the number, and the length of the listing, 0 with a refusal.
 pub struct Listed {

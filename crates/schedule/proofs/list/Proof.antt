@@ -2,7 +2,7 @@ use Prim.Native.Nat.{ℕ}
 use mathlib.Core.Path.{sym, _∙_}
 use native.Mathlib.Omega.{arith}
 use lib.ListN.{length, length-take}
-use Rattle.schedule.proofs.Files.{listable, no-listing-is-longer}
+use Rattle.schedule.proofs.Files.{listable, the-listing-fits}
 use Rattle.schedule.proofs.Refusing.{clear, when-refused, when-listed}
 use borrow.Author.Needs.{needs}
 use Rattle.schedule.proofs.list.Statement.{statement}
@@ -72,7 +72,7 @@ returns-2 c =
     let file = start .args .file .now in
     let passes = sym (refusal .list-refusal .ensures) ∙ max .before .if1 .left in
     let ok = clear file (length (start .args .strip .now)) (length (start .args .out .now)) passes in
-    let short = no-listing-is-longer file (ok .passes) (λ (i : ℕ). refusal .before .before .before .shared-slice-known .given i .fits) in
+    let short = the-listing-fits file (ok .passes) (λ (i : ℕ). refusal .before .before .before .shared-slice-known .given i .fits) in
     rw (run .run-and-tell .ensures .1, max .number-2 .ensures) (when-listed file _ _ passes short _ _ (run .run-and-tell .ensures .0))
 
 pub list-spec : {M : Type 1} → statement M

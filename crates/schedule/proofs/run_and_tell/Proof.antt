@@ -2,12 +2,12 @@ use Prim.Native.Nat.{ℕ}
 use mathlib.Core.Path.{_≡_}
 use mathlib.Core.List.{List, _++_}
 use Rattle.history.specs.Run.{endFrom}
+use Rattle.text.specs.Writing.{Room, Puts}
+use Rattle.text.proofs.Puts.{room-left, room-right, puts-then}
+use Rattle.listing.specs.Listing.{runText, headerText, cellsText, listingText}
 use Rattle.schedule.specs.File.{partiesAt, maxAt, divideAt, callsOf}
-use Rattle.schedule.specs.Listing.{firstState, runText, headerText, cellsText, listingOf}
-use Rattle.schedule.specs.List.{wordsAtEnd}
-use Rattle.schedule.specs.Writing.{Room, Puts}
+use Rattle.schedule.specs.List.{firstOf, wordsAtEnd}
 use native.Mathlib.Omega.{arith}
-use Rattle.schedule.proofs.Puts.{room-left, room-right, puts-then}
 use Rattle.schedule.proofs.Files.{Listable, listable, laid-fresh, room-to-list}
 use borrow.Author.Needs.{needs}
 use Rattle.schedule.proofs.run_and_tell.Statement.{statement}
@@ -40,7 +40,7 @@ put-header-requires c κs =
     let start = divide .before .before .before .before .before in
     let file = start .args .file .now in
     rw (c .number-22 .ensures, divide .number-2 .ensures)
-    (room-left _ _ (room-to-list file _ (start .pre .0) (λ (i : ℕ). divide .before .before .before .before .shared-slice-known .given i .fits) (start .pre .2)))
+    (room-left _ _ (room-to-list file (start .pre .0) (λ (i : ℕ). divide .before .before .before .before .shared-slice-known .given i .fits) _ (start .pre .2)))
 
 sub-run-entries : tie.Need-sub-run-entries
 sub-run-entries c =
@@ -63,14 +63,14 @@ file-of c = start-of c .args .file .now
 known : (c : tie.After-put-header) → Listable (file-of c)
 known c = listable (file-of c) (start-of c .pre .0)
 
-fresh : (c : tie.After-put-header) → lay-of c .lay .last .0 ≡ firstState (file-of c) .strip
+fresh : (c : tie.After-put-header) → lay-of c .lay .last .0 ≡ firstOf (file-of c) .strip
 fresh c =
     laid-fresh (file-of c) (start-of c .args .strip .now) (divide-of c .number-2 .result) (known c) (start-of c .pre .1)
     (divide-of c .number-2 .ensures) (lay-of c .lay .ensures)
 
 -- the run and the cells have room behind the header
 abbrev rest-of : List ℕ → List ℕ
-rest-of file = runText (firstState file) 0 (callsOf file) ++ cellsText (endFrom (firstState file) 0 (callsOf file) .strip)
+rest-of file = runText (firstOf file) 0 (callsOf file) ++ cellsText (endFrom (firstOf file) 0 (callsOf file) .strip)
 
 abbrev header-of : List ℕ → List ℕ
 header-of file = headerText (maxAt file) (divideAt file) (partiesAt file)
@@ -81,8 +81,8 @@ puts-header c = rw (c .before .number-22 .ensures, divide-of c .number-2 .ensure
 rest-fits : (c : tie.After-put-header) → Room (rest-of (file-of c)) (c .put-header .last .0) (c .put-header .result)
 rest-fits c =
     room-right _ _
-    (room-to-list (file-of c) (start-of c .args .out .now) (start-of c .pre .0)
-    (λ (i : ℕ). divide-of c .before .before .before .before .shared-slice-known .given i .fits) (start-of c .pre .2))
+    (room-to-list (file-of c) (start-of c .pre .0) (λ (i : ℕ). divide-of c .before .before .before .before .shared-slice-known .given i .fits)
+    (start-of c .args .out .now) (start-of c .pre .2))
     (puts-header c)
 
 run-entries-requires : tie.Need-run-entries-requires
@@ -103,7 +103,7 @@ same-length-2 : tie.Need-same-length-2
 same-length-2 c = search needs
 
 returns : tie.Need-returns
-unfolding listingOf wordsAtEnd
+unfolding listingText wordsAtEnd
 returns c =
     let cells = c .before .before in
     let run = cells .before .before .before .before .before .before .before in

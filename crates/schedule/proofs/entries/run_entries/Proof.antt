@@ -5,10 +5,10 @@ use lib.ListN.{set, length-set}
 use Rattle.step.specs.Call.{Call}
 use Rattle.entry.specs.Entry.{askedOf}
 use Rattle.history.specs.Run.{State}
-use Rattle.schedule.specs.Turn.{lineIn}
-use Rattle.schedule.specs.Listing.{lineText}
-use Rattle.schedule.proofs.Entering.{stateOf}
-use Rattle.schedule.proofs.Puts.{rest-room, room-left}
+use Rattle.text.proofs.Puts.{rest-room, room-left}
+use Rattle.run.specs.Turn.{lineIn}
+use Rattle.run.proofs.Entering.{stateOf}
+use Rattle.listing.specs.Listing.{lineText}
 use Rattle.schedule.proofs.Running.{Running, callsLeft, Moves, moves, running-begins, running-moves, running-ends}
 use borrow.Author.Needs.{needs}
 use Rattle.schedule.proofs.entries.run_entries.Statement.{statement}
@@ -50,11 +50,11 @@ mul-look c = search needs
 array-read-look : tie.Need-array-read-look Inv-loop μ-loop
 array-read-look c = search needs
 
-cast-turn : tie.Need-cast-turn Inv-loop μ-loop
-cast-turn c = search needs
+cast-take-turn : tie.Need-cast-take-turn Inv-loop μ-loop
+cast-take-turn c = search needs
 
-turn-requires : tie.Need-turn-requires Inv-loop μ-loop
-turn-requires c κs = search needs
+take-turn-requires : tie.Need-take-turn-requires Inv-loop μ-loop
+take-turn-requires c κs = search needs
 
 mul-table : tie.Need-mul-table Inv-loop μ-loop
 mul-table c = search needs
@@ -72,39 +72,39 @@ cast-put-line : tie.Need-cast-put-line Inv-loop μ-loop
 cast-put-line c = search needs
 
 -- After the turn: where the loop stood, where the call began, and what the entry came to.
-abbrev loop-of : tie.After-turn Inv-loop μ-loop → tie.At-loop Inv-loop μ-loop
+abbrev loop-of : tie.After-take-turn Inv-loop μ-loop → tie.At-loop Inv-loop μ-loop
 loop-of c = c .before .before .before .before .before .before
 
-abbrev start-of : tie.After-turn Inv-loop μ-loop → tie.Start Inv-loop μ-loop
+abbrev start-of : tie.After-take-turn Inv-loop μ-loop → tie.Start Inv-loop μ-loop
 start-of c = loop-of c .before .before .before .before .before
 
-abbrev party-of : tie.After-turn Inv-loop μ-loop → ℕ
+abbrev party-of : tie.After-take-turn Inv-loop μ-loop → ℕ
 party-of c = c .before .before .before .party-in-16 .result
 
-abbrev asked-of : tie.After-turn Inv-loop μ-loop → Call
+abbrev asked-of : tie.After-take-turn Inv-loop μ-loop → Call
 asked-of c = askedOf (c .before .before .before .before .read .result)
 
-abbrev before-of : tie.After-turn Inv-loop μ-loop → State
+abbrev before-of : tie.After-take-turn Inv-loop μ-loop → State
 before-of c = stateOf (start-of c .args .parties) (loop-of c .loop .strip) (loop-of c .loop .table) (loop-of c .loop .looks)
 
-abbrev after-of : tie.After-turn Inv-loop μ-loop → State
+abbrev after-of : tie.After-take-turn Inv-loop μ-loop → State
 after-of c =
-    stateOf (start-of c .args .parties) (c .turn .last .0) (set (loop-of c .loop .table) (party-of c) (c .turn .result .rec))
-    (set (loop-of c .loop .looks) (party-of c) (c .turn .result .look))
+    stateOf (start-of c .args .parties) (c .take-turn .last .0) (set (loop-of c .loop .table) (party-of c) (c .take-turn .result .rec))
+    (set (loop-of c .loop .looks) (party-of c) (c .take-turn .result .look))
 
-abbrev left-of : tie.After-turn Inv-loop μ-loop → ℕ → List Call
+abbrev left-of : tie.After-take-turn Inv-loop μ-loop → ℕ → List Call
 left-of c i = callsLeft (start-of c .args .file .now) (start-of c .args .count) i
 
-moved : (c : tie.After-turn Inv-loop μ-loop)
+moved : (c : tie.After-take-turn Inv-loop μ-loop)
     → Moves (before-of c) (after-of c) (loop-of c .loop .i) (left-of c (loop-of c .loop .i)) (left-of c (loop-of c .loop .i + 1))
-    (lineText (loop-of c .loop .i) (asked-of c) (lineIn (c .turn .result)))
+    (lineText (loop-of c .loop .i) (asked-of c) (lineIn (c .take-turn .result)))
 moved c =
     let start = start-of c in
     let now = loop-of c .loop in
     moves (start .args .file .now) (start .args .parties) (start .args .count) (now .strip) (now .table) (now .looks) (now .i)
     (start .pre .2) (now .inv .table-16) (now .inv .looks-16) (omega (arith, c .before .before .before .before .before .loop-test))
     (asked-of c) (c .before .before .before .before .read .ensures) (party-of c) (c .before .before .before .party-in-16 .ensures)
-    (c .turn .result) (c .turn .last .0) (c .turn .ensures)
+    (c .take-turn .result) (c .take-turn .last .0) (c .take-turn .ensures .0) (c .take-turn .ensures .1)
 
 put-line-requires : tie.Need-put-line-requires Inv-loop μ-loop
 put-line-requires c κs =
@@ -123,7 +123,7 @@ loop-again c =
     let line = c .before .before in
     let turn = line .before .before .before .before .before in
     let now = loop-of turn .loop in
-    running-moves _ _ _ _ _ _ (now .inv) (omega arith) (simp length-set (now .inv .table-16)) (simp length-set (now .inv .looks-16)) (turn .turn .kept .0) (moved turn) (line .put-line .ensures)
+    running-moves _ _ _ _ _ _ (now .inv) (omega arith) (simp length-set (now .inv .table-16)) (simp length-set (now .inv .looks-16)) (turn .take-turn .kept .0) (moved turn) (line .put-line .ensures)
 
 same-length : tie.Need-same-length Inv-loop μ-loop
 same-length c = c .before .loop .inv .words
@@ -150,8 +150,8 @@ run-entries-spec =
     array-copy-out-r
     mul-look
     array-read-look
-    cast-turn
-    turn-requires
+    cast-take-turn
+    take-turn-requires
     mul-table
     array-set-from-table
     mul-looks

@@ -1,13 +1,13 @@
-use Rattle.schedule.proofs.Puts.{room-left}
+use Rattle.text.proofs.Puts.{room-left}
 use Prim.Native.Nat.{_-_}
 use lib.ListN.{length, drop}
 use native.Mathlib.Omega.{arith}
-use Rattle.schedule.specs.Listing.{wordsText}
-use Rattle.schedule.proofs.Puts.{Rest, rest-begins, rest-room, rest-goes-on, rest-ends}
-use Rattle.schedule.proofs.Words.{words-more, words-end}
+use Rattle.listing.specs.Listing.{wordsText}
+use Rattle.text.proofs.Puts.{Rest, rest-begins, rest-room, rest-goes-on, rest-ends}
+use Rattle.listing.proofs.Words.{words-more, words-end}
 use borrow.Author.Needs.{needs}
-use Rattle.schedule.proofs.lines.put_words.Statement.{statement}
-use Rattle.schedule.proofs.lines.put_words.Tie as tie
+use Rattle.listing.proofs.put_words.Statement.{statement}
+use Rattle.listing.proofs.put_words.Tie as tie
 
 abbrev Inv-loop : tie.InvT-loop
 Inv-loop out₀ at strip next₀ i₀ out next i = Rest (wordsText strip) out₀ at (wordsText (drop i strip)) out next

@@ -1,20 +1,20 @@
-// The lines of a listing, each into lent bytes. Each answers the place behind what it wrote.
-use crate::Turn;
-use crate::run::party_of;
-use crate::text::put_byte;
-use crate::text::put_decimal;
-use crate::text::put_spaced;
-use crate::text::put_text;
+// The lines of a listing, each into lent bytes. Each answers the place behind what it wrote, and asks that there is room.
 use entry::Entry;
+use entry::party_of;
+use run::Turn;
+use text::put_byte;
+use text::put_decimal;
+use text::put_spaced;
+use text::put_text;
 use word::counter;
 use word::value;
 ghost use mathlib.Core.Path.{_≡_};
 ghost use mathlib.Core.List.{_++_, _∷_, []};
+ghost use Rattle.text.specs.Writing.{Room, Puts};
 ghost use Rattle.entry.specs.Entry.{askedOf};
 ghost use Rattle.history.specs.Finished.{isResult};
-ghost use Rattle.schedule.specs.Turn.{lineIn};
-ghost use Rattle.schedule.specs.Listing.{effectText, lineText, headerText, wordText, wordsText, cellsText};
-ghost use Rattle.schedule.specs.Writing.{Room, Puts};
+ghost use Rattle.run.specs.Turn.{lineIn};
+ghost use Rattle.listing.specs.Listing.{effectText, lineText, headerText, wordText, wordsText, cellsText};
 
 fn is_result(number: u32) -> bool
     ensures { λ t. ⌜ t ≡ isResult number ⌝ }
@@ -42,7 +42,7 @@ fn put_end(out: &mut [u8], at: usize, t: Turn) -> usize
     put_byte(out, end, 10)
 }
 
-// Entry, party, number, carried order, effect, where there is room.
+// Entry, party, number, carried order, effect. Public for the schedule, which knows that there is room.
 pub fn put_line(out: &mut [u8], at: usize, entry: u32, e: Entry, t: Turn) -> usize
     requires { ⌜ Room (lineText entry (askedOf e) (lineIn t)) (now out) at ⌝ }
     ensures { λ next. ⌜ Puts (lineText entry (askedOf e) (lineIn t)) (now (out .entry)) at next (now (out .exit)) ⌝ }
@@ -54,7 +54,7 @@ pub fn put_line(out: &mut [u8], at: usize, entry: u32, e: Entry, t: Turn) -> usi
     put_end(out, end, t)
 }
 
-// MAX, divide, parties, where there is room.
+// MAX, divide, parties. Public for the schedule, which knows that there is room.
 pub fn put_header(out: &mut [u8], at: usize, max: u16, divide: u16, parties: u8) -> usize
     requires { ⌜ Room (headerText max divide parties) (now out) at ⌝ }
     ensures { λ next. ⌜ Puts (headerText max divide parties) (now (out .entry)) at next (now (out .exit)) ⌝ }
@@ -90,7 +90,7 @@ fn put_words(out: &mut [u8], at: usize, strip: &[u64]) -> usize
     put_byte(out, next, 10)
 }
 
-// The last line: every word of the strip, where there is room.
+// The last line: every word of the strip. Public for the schedule, which knows that there is room.
 pub fn put_cells(out: &mut [u8], at: usize, strip: &[u64]) -> usize
     requires { ⌜ Room (cellsText (now strip)) (now out) at ⌝ }
     ensures { λ next. ⌜ Puts (cellsText (now (strip .entry))) (now (out .entry)) at next (now (out .exit)) ⌝ }

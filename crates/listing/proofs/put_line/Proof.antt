@@ -1,7 +1,7 @@
-use Rattle.schedule.proofs.Puts.{room-left, room-right, puts-then}
+use Rattle.text.proofs.Puts.{room-left, room-right, puts-then}
 use borrow.Author.Needs.{needs}
-use Rattle.schedule.proofs.lines.put_line.Statement.{statement}
-use Rattle.schedule.proofs.lines.put_line.Tie as tie
+use Rattle.listing.proofs.put_line.Statement.{statement}
+use Rattle.listing.proofs.put_line.Tie as tie
 
 put-decimal-requires : tie.Need-put-decimal-requires
 put-decimal-requires c κs = room-left _ _ (c .before .before .pre)

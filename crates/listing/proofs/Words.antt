@@ -5,7 +5,7 @@ use mathlib.Core.List.{List, [], _∷_, _++_}
 use lib.ListN.{length, getD, drop, drop-of-length-le}
 use lib.Seq.{drop-cons}
 use native.Mathlib.Numerals.{add-one}
-use Rattle.schedule.specs.Listing.{wordText, wordsText}
+use Rattle.listing.specs.Listing.{wordText, wordsText}
 
 module _ (strip : List ℕ) (i : ℕ) where
   pub words-more : i < length strip → wordsText (drop i strip) ≡ wordText (getD strip i 0) ++ wordsText (drop (i + 1) strip)

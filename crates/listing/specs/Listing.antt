@@ -7,12 +7,7 @@ use Rattle.step.specs.Call.{Call, partyOf}
 use Rattle.strip.specs.Lay.{freshStrip}
 use Rattle.history.specs.Run.{State, Line, begin, linesFrom, endFrom}
 use Rattle.history.specs.Finished.{isResult}
-use Rattle.schedule.specs.File.{partiesAt, maxAt, divideAt, callsOf}
-use Rattle.schedule.specs.Text.{decimal}
-
--- a space and a number
-abbrev pub spaced : (number : ℕ) → List ℕ
-spaced number = 32 ∷ decimal number
+use Rattle.text.specs.Text.{decimal, spaced}
 
 -- the entry where the operation took effect, or "-"
 abbrev pub effectText : Line → List ℕ
@@ -52,11 +47,16 @@ wordsText (word ∷ words) = wordText word ++ wordsText words
 abbrev pub cellsText : List ℕ → List ℕ
 cellsText strip = (99 ∷ 101 ∷ 108 ∷ 108 ∷ 115 ∷ []) ++ wordsText strip
 
-abbrev pub firstState : List ℕ → State
-firstState file = begin (freshStrip (maxAt file) (divideAt file)) (partiesAt file)
+-- a fresh strip with every party idle
+abbrev pub firstState : (max divide parties : ℕ) → State
+firstState max divide parties = begin (freshStrip max divide) parties
 
-unfoldable pub listingOf : List ℕ → List ℕ
-listingOf file =
-    headerText (maxAt file) (divideAt file) (partiesAt file)
-    ++ (runText (firstState file) 0 (callsOf file)
-    ++ cellsText (endFrom (firstState file) 0 (callsOf file) .strip))
+-- header, a line for each entry, cells
+unfoldable pub listingText : (max divide parties : ℕ) → List Call → List ℕ
+listingText max divide parties calls =
+    let first = firstState max divide parties in
+    headerText max divide parties ++ (runText first 0 calls ++ cellsText (endFrom first 0 calls .strip))
+
+-- no listing of a schedule file is longer
+abbrev pub longest : ℕ
+longest = 147489

@@ -1,8 +1,8 @@
-use Rattle.schedule.proofs.Puts.{room-left, room-right, puts-then}
+use Rattle.text.proofs.Puts.{room-left, room-right, puts-then}
 use mathlib.Core.List.{[], _∷_}
 use borrow.Author.Needs.{needs}
-use Rattle.schedule.proofs.lines.put_end.Statement.{statement}
-use Rattle.schedule.proofs.lines.put_end.Tie as tie
+use Rattle.listing.proofs.put_end.Statement.{statement}
+use Rattle.listing.proofs.put_end.Tie as tie
 
 put-byte-requires : tie.Need-put-byte-requires
 put-byte-requires c κs = search needs

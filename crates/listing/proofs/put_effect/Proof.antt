@@ -1,7 +1,7 @@
 use mathlib.Core.Path.{sym, _∙_}
 use borrow.Author.Needs.{needs}
-use Rattle.schedule.proofs.lines.put_effect.Statement.{statement}
-use Rattle.schedule.proofs.lines.put_effect.Tie as tie
+use Rattle.listing.proofs.put_effect.Statement.{statement}
+use Rattle.listing.proofs.put_effect.Tie as tie
 
 is-result-requires : tie.Need-is-result-requires
 is-result-requires c κs = search needs

@@ -1,7 +1,7 @@
-use Rattle.schedule.proofs.Puts.{puts-then}
+use Rattle.text.proofs.Puts.{puts-then}
 use borrow.Author.Needs.{needs}
-use Rattle.schedule.proofs.lines.put_cells.Statement.{statement}
-use Rattle.schedule.proofs.lines.put_cells.Tie as tie
+use Rattle.listing.proofs.put_cells.Statement.{statement}
+use Rattle.listing.proofs.put_cells.Tie as tie
 
 slice-aggregate-put-text : tie.Need-slice-aggregate-put-text
 slice-aggregate-put-text c = search needs

@@ -1,8 +1,8 @@
-use Rattle.schedule.proofs.Puts.{room-left, room-right, puts-then}
+use Rattle.text.proofs.Puts.{room-left, room-right, puts-then}
 use mathlib.Core.List.{[], _∷_}
 use borrow.Author.Needs.{needs}
-use Rattle.schedule.proofs.lines.put_word.Statement.{statement}
-use Rattle.schedule.proofs.lines.put_word.Tie as tie
+use Rattle.listing.proofs.put_word.Statement.{statement}
+use Rattle.listing.proofs.put_word.Tie as tie
 
 value-requires : tie.Need-value-requires
 value-requires c κs = search needs
