@@ -62,6 +62,16 @@ unfolding layRefusal
 lays file words l same =
     simp (le-leb 3 words (omega arith), le-leb words 4096 (omega arith), le-leb (divideAt file) (words - 2) (omega arith))
 
+-- the three pieces of a listing
+abbrev pub headerOf : (file : List ℕ) → List ℕ
+headerOf file = headerText (maxAt file) (divideAt file) (partiesAt file)
+
+abbrev pub runOf : (file : List ℕ) → List ℕ
+runOf file = runText (firstOf file) 0 (callsOf file)
+
+abbrev pub cellsOf : (file : List ℕ) → List ℕ
+cellsOf file = cellsText (endFrom (firstOf file) 0 (callsOf file) .strip)
+
 calls-count : (file : List ℕ) (at count : ℕ) → length (callsFrom file at count) ≡ count
 unfolding callsFrom
 calls-count file at zero = refl
@@ -84,10 +94,7 @@ module _ (file : List ℕ) (passes : fileRefusal file ≡ 0) (bytes : (i : ℕ) 
       (rw (calls-count file 10 (entriesOf file)) (l .few)) (calls-narrow 10 (entriesOf file))
 
   -- the room that a listing wants, piece by piece
-  pub room-to-list : (out : List ℕ) → longest ≤ length out
-      → Room
-      (headerText (maxAt file) (divideAt file) (partiesAt file)
-      ++ (runText (firstOf file) 0 (callsOf file) ++ cellsText (endFrom (firstOf file) 0 (callsOf file) .strip))) out 0
+  pub room-to-list : (out : List ℕ) → longest ≤ length out → Room (headerOf file ++ (runOf file ++ cellsOf file)) out 0
   unfolding listingText
   room-to-list out long = record { fits = omega (arith, the-listing-fits) }
 

@@ -1,9 +1,11 @@
 use Prim.Native.Nat.{ℕ}
-use mathlib.Core.Path.{sym, _∙_}
+use mathlib.Core.Path.{_≡_, sym, _∙_}
+use mathlib.Core.List.{List}
 use native.Mathlib.Omega.{arith}
 use lib.ListN.{length, length-take}
-use Rattle.schedule.proofs.Files.{listable, the-listing-fits}
-use Rattle.schedule.proofs.Refusing.{clear, when-refused, when-listed}
+use Rattle.schedule.specs.List.{listRefusal}
+use Rattle.schedule.proofs.Files.{Listable, listable, the-listing-fits}
+use Rattle.schedule.proofs.Refusing.{Clear, clear, when-refused, when-listed}
 use borrow.Author.Needs.{needs}
 use Rattle.schedule.proofs.list.Statement.{statement}
 use Rattle.schedule.proofs.list.Tie as tie
@@ -14,14 +16,24 @@ list-refusal-requires c κs = search needs
 returns : tie.Need-returns
 returns c = when-refused _ _ _ _ (c .before .list-refusal .ensures) (c .if1 .taken)
 
+-- Where no check refused: where the call began, and what is known.
+abbrev start-of : tie.Else1 → tie.Start
+start-of c = c .before .before .before .before .before
+
+abbrev file-of : tie.Else1 → List ℕ
+file-of c = start-of c .args .file .now
+
+passes : (c : tie.Else1) → listRefusal (file-of c) (length (start-of c .args .strip .now)) (length (start-of c .args .out .now)) ≡ 0
+passes c = sym (c .before .list-refusal .ensures) ∙ c .if1 .left
+
+cleared : (c : tie.Else1) → Clear (file-of c) (length (start-of c .args .strip .now)) (length (start-of c .args .out .now))
+cleared c = clear _ _ _ (passes c)
+
+known : (c : tie.Else1) → Listable (file-of c)
+known c = listable _ (cleared c .passes)
+
 number-2-requires : tie.Need-number-2-requires
-number-2-requires c κs =
-    let refusal = c .before in
-    let start = refusal .before .before .before .before in
-    let file = start .args .file .now in
-    let passes = sym (refusal .list-refusal .ensures) ∙ c .if1 .left in
-    let ok = clear file (length (start .args .strip .now)) (length (start .args .out .now)) passes in
-    omega (arith, listable file (ok .passes) .headed)
+number-2-requires c κs = omega (arith, known c .headed)
 
 cast-words : tie.Need-cast-words
 cast-words c = search needs
@@ -30,32 +42,21 @@ add-words : tie.Need-add-words
 add-words c = search needs
 
 slice-relend-prefix-run-and-tell : tie.Need-slice-relend-prefix-run-and-tell
-slice-relend-prefix-run-and-tell c =
-    let refusal = c .before .before in
-    let start = refusal .before .before .before .before in
-    let file = start .args .file .now in
-    let passes = sym (refusal .list-refusal .ensures) ∙ c .before .if1 .left in
-    let ok = clear file (length (start .args .strip .now)) (length (start .args .out .now)) passes in
-    omega (arith, c .number-2 .ensures, listable file (ok .passes) .max-high, ok .whole)
+slice-relend-prefix-run-and-tell c = omega (arith, c .number-2 .ensures, known (c .before) .max-high, cleared (c .before) .whole)
 
 slice-aggregate-run-and-tell : tie.Need-slice-aggregate-run-and-tell
 slice-aggregate-run-and-tell c =
-    let refusal = c .before .before .before in
-    let start = refusal .before .before .before .before in
-    let file = start .args .file .now in
-    let passes = sym (refusal .list-refusal .ensures) ∙ c .before .before .if1 .left in
-    let ok = clear file (length (start .args .strip .now)) (length (start .args .out .now)) passes in
-    simp length-take (omega (arith, c .before .number-2 .ensures, listable file (ok .passes) .max-high, ok .whole))
+    let at = c .before .before in
+    simp length-take (omega (arith, c .before .number-2 .ensures, known at .max-high, cleared at .whole))
 
 run-and-tell-requires : tie.Need-run-and-tell-requires
 run-and-tell-requires c κs =
-    let refusal = c .before .before .before .before in
-    let start = refusal .before .before .before .before in
-    let file = start .args .file .now in
-    let passes = sym (refusal .list-refusal .ensures) ∙ c .before .before .before .if1 .left in
-    let ok = clear file (length (start .args .strip .now)) (length (start .args .out .now)) passes in
-    let l = listable file (ok .passes) in
-    (ok .passes, simp length-take (omega (arith, c .before .before .number-2 .ensures, l .max-high, ok .whole)), ok .wide)
+    let max = c .before .before in
+    let at = max .before in (
+      cleared at .passes,
+      simp length-take (omega (arith, max .number-2 .ensures, known at .max-high, cleared at .whole)),
+      cleared at .wide,
+    )
 
 same-length : tie.Need-same-length
 same-length c = search needs
@@ -67,13 +68,9 @@ returns-2 : tie.Need-returns-2
 returns-2 c =
     let run = c .before .before .before .before in
     let max = run .before .before .before in
-    let refusal = max .before .before in
-    let start = refusal .before .before .before .before in
-    let file = start .args .file .now in
-    let passes = sym (refusal .list-refusal .ensures) ∙ max .before .if1 .left in
-    let ok = clear file (length (start .args .strip .now)) (length (start .args .out .now)) passes in
-    let short = the-listing-fits file (ok .passes) (λ (i : ℕ). refusal .before .before .before .shared-slice-known .given i .fits) in
-    rw (run .run-and-tell .ensures .1, max .number-2 .ensures) (when-listed file _ _ passes short _ _ (run .run-and-tell .ensures .0))
+    let at = max .before in
+    let short = the-listing-fits (file-of at) (cleared at .passes) (λ (i : ℕ). at .before .before .before .before .shared-slice-known .given i .fits) in
+    rw (run .run-and-tell .ensures .1, max .number-2 .ensures) (when-listed (file-of at) _ _ (passes at) short _ _ (run .run-and-tell .ensures .0))
 
 pub list-spec : {M : Type 1} → statement M
 list-spec =
