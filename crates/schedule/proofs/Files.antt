@@ -63,14 +63,14 @@ lays file words l same =
     simp (le-leb 3 words (omega arith), le-leb words 4096 (omega arith), le-leb (divideAt file) (words - 2) (omega arith))
 
 -- the three pieces of a listing
-abbrev pub headerOf : (file : List ℕ) → List ℕ
-headerOf file = headerText (maxAt file) (divideAt file) (partiesAt file)
+abbrev pub headerIn : (file : List ℕ) → List ℕ
+headerIn file = headerText (maxAt file) (divideAt file) (partiesAt file)
 
-abbrev pub runOf : (file : List ℕ) → List ℕ
-runOf file = runText (firstOf file) 0 (callsOf file)
+abbrev pub linesIn : (file : List ℕ) → List ℕ
+linesIn file = runText (firstOf file) 0 (callsOf file)
 
-abbrev pub cellsOf : (file : List ℕ) → List ℕ
-cellsOf file = cellsText (endFrom (firstOf file) 0 (callsOf file) .strip)
+abbrev pub cellsIn : (file : List ℕ) → List ℕ
+cellsIn file = cellsText (endFrom (firstOf file) 0 (callsOf file) .strip)
 
 calls-count : (file : List ℕ) (at count : ℕ) → length (callsFrom file at count) ≡ count
 unfolding callsFrom
@@ -94,7 +94,7 @@ module _ (file : List ℕ) (passes : fileRefusal file ≡ 0) (bytes : (i : ℕ) 
       (rw (calls-count file 10 (entriesOf file)) (l .few)) (calls-narrow 10 (entriesOf file))
 
   -- the room that a listing wants, piece by piece
-  pub room-to-list : (out : List ℕ) → longest ≤ length out → Room (headerOf file ++ (runOf file ++ cellsOf file)) out 0
+  pub room-to-list : (out : List ℕ) → longest ≤ length out → Room (headerIn file ++ (linesIn file ++ cellsIn file)) out 0
   unfolding listingText
   room-to-list out long = record { fits = omega (arith, the-listing-fits) }
 

@@ -15,9 +15,11 @@ use Rattle.schedule.specs.declared.Listed.{Listed}
 unfoldable pub listRefusal : (file : List ℕ) (words room : ℕ) → ℕ
 listRefusal file words room = pick (not (eqb words 4096 && leb longest room)) 1 (fileRefusal file)
 
+-- what is written where no check refuses
 abbrev pub listingOf : (file : List ℕ) → List ℕ
 listingOf file = listingText (maxAt file) (divideAt file) (partiesAt file) (callsOf file)
 
+-- the strip as it is laid, every party idle
 abbrev pub firstOf : (file : List ℕ) → State
 firstOf file = firstState (maxAt file) (divideAt file) (partiesAt file)
 
