@@ -7,7 +7,7 @@ use lib.Dec.{eqb}
 use borrow.Author.Tests.{eq-eqb, ne-eqb, not-true, not-false}
 use Rattle.logic.specs.Pick.{pick}
 use Rattle.logic.proofs.Bools.{whichever}
-use Rattle.step.specs.Call.{Call, partyOf}
+use Rattle.call.specs.Call.{Call, partyOf}
 use Rattle.entry.specs.Entry.{actAt, partyAt, operationAt, zeroAt, wordAt, isKnown, unknown, callAt}
 
 module _ (bytes : List ℕ) (at number : ℕ) (known : Bool) (reads : number ≡ wordAt bytes at)

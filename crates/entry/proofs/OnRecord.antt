@@ -11,8 +11,8 @@ use borrow.Author.Tests.{eqb-true, eqb-false, eq-eqb, ne-eqb}
 use Rattle.party.specs.Answer.{refused}
 use Rattle.party.specs.declared.Record.{Record}
 use Rattle.party.specs.declared.Answered.{Answered}
-use Rattle.step.specs.Call.{Call, partyOf, gate, ownOf, ownLeaves, Left, recordOf, callOf}
-use Rattle.step.proofs.Called.{call-through, call-away}
+use Rattle.call.specs.Call.{Call, partyOf, gate, ownOf, ownLeaves, Left, recordOf, callOf}
+use Rattle.call.proofs.Called.{call-through, call-away}
 use Rattle.entry.specs.OnRecord.{onRecordOf, onRecordLeaves}
 
 module _ (strip : List ℕ) (parties : ℕ) (r : Record) (call : Call) where

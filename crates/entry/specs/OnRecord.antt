@@ -8,7 +8,7 @@ use Rattle.logic.specs.Pick.{pick}
 use Rattle.party.specs.Answer.{unless}
 use Rattle.party.specs.declared.Record.{Record}
 use Rattle.party.specs.declared.Answered.{Answered}
-use Rattle.step.specs.Call.{Call, gate, ownOf, ownLeaves}
+use Rattle.call.specs.Call.{Call, gate, ownOf, ownLeaves}
 
 -- refused before the record is looked at, or what the call does with it
 unfoldable pub onRecordOf : (strip : List ℕ) (parties : ℕ) → Record → Call → Answered

@@ -1,15 +1,15 @@
 // An entry of a schedule: its 8 bytes, and what it does to a strip and its party's record.
+use call::gated;
 use little::number_4;
 use party::Answered;
 use party::Record;
 use party::make::refused_with;
-use step::gated;
 ghost use mathlib.Core.Path.{_≡_};
 ghost use mathlib.Core.Bool.{true};
 ghost use Prim.Native.Nat.{_+_, _≤_};
 ghost use lib.ListN.{length};
 ghost use Rattle.step.specs.Step.{stripFits};
-ghost use Rattle.step.specs.Call.{partyOf, isUnknown, gate, ownOf, ownLeaves};
+ghost use Rattle.call.specs.Call.{partyOf, isUnknown, gate, ownOf, ownLeaves};
 ghost use Rattle.entry.specs.Entry.{isKnown, callAt, askedOf};
 ghost use Rattle.entry.specs.OnRecord.{onRecordOf, onRecordLeaves};
 

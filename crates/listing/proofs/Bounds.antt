@@ -9,9 +9,9 @@ use Rattle.party.specs.Answer.{numberOf}
 use Rattle.party.specs.declared.Record.{Record}
 use Rattle.party.specs.declared.Answer.{Answer}
 use Rattle.party.proofs.Refusals.{refusal-is-small}
-use Rattle.step.specs.Call.{Call, callOf}
+use Rattle.call.specs.Call.{Call, callOf}
 use Rattle.step.proofs.Stepped.{Stepped, stepped}
-use Rattle.step.proofs.Called.{Leaves, Called, called}
+use Rattle.call.proofs.Called.{Leaves, Called, called}
 use Rattle.invariant.proofs.Writes.{strip-stays-as-long}
 
 stepped-bounded : {r next : Record} {number : ℕ} → Stepped r next number → number ≤ 19

@@ -14,7 +14,7 @@ use Rattle.text.specs.Text.{decimal}
 use Rattle.text.proofs.Lengths.{digits-within, digits-most}
 use Rattle.word.specs.Word.{valueOf, counterOf}
 use Rattle.party.specs.Answer.{numberOf}
-use Rattle.step.specs.Call.{Call, partyOf, callOf}
+use Rattle.call.specs.Call.{Call, partyOf, callOf}
 use Rattle.strip.proofs.Laying.{fresh-length}
 use Rattle.history.specs.Run.{State, Line, noCall, looked, lineOf, leaves, linesFrom, endFrom}
 use Rattle.history.specs.Finished.{isResult}

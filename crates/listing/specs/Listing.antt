@@ -3,7 +3,7 @@ use Prim.Native.Nat.{ℕ, suc}
 use mathlib.Core.List.{List, [], _∷_, _++_}
 use Rattle.logic.specs.Pick.{pick}
 use Rattle.word.specs.Word.{valueOf, counterOf}
-use Rattle.step.specs.Call.{Call, partyOf}
+use Rattle.call.specs.Call.{Call, partyOf}
 use Rattle.strip.specs.Lay.{freshStrip}
 use Rattle.history.specs.Run.{State, Line, begin, linesFrom, endFrom}
 use Rattle.history.specs.Finished.{isResult}

@@ -6,7 +6,7 @@ use Rattle.party.specs.Calls.{startOwn, startRefusal, startOf}
 use Rattle.step.specs.Stages.{accessOf}
 use Rattle.step.specs.Follow.{judgeOf, recheckOf}
 use Rattle.step.specs.Step.{stepOwn, stepRefusal, stepOf, stepLeaves}
-use Rattle.step.specs.Call.{gate, callOf}
+use Rattle.call.specs.Call.{gate, callOf}
 use Rattle.strip.specs.Measure.{measureOf}
 use Rattle.strip.specs.Measure as measure
 use Rattle.plain.specs.Play.{play}

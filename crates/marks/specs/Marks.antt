@@ -4,7 +4,7 @@ use mathlib.Core.Bool.{Bool, true, _&&_}
 use mathlib.Core.List.{List, [], _∷_, map}
 use lib.Dec.{eqb}
 use Rattle.word.specs.Word.{wordOf}
-use Rattle.step.specs.Call.Call.{start, step}
+use Rattle.call.specs.Call.Call.{start, step}
 use Rattle.strip.specs.Lay.{freshStrip}
 use Rattle.strip.specs.Measure.{measureOf, measuredLeft}
 use Rattle.history.specs.Run.{begin, linesFrom, endFrom}

@@ -5,7 +5,7 @@ use mathlib.Core.List.{List, [], _∷_}
 use lib.ListN.{length}
 use lib.Dec.{eqb}
 use Rattle.party.specs.Answer.{numberOf, carriedOf}
-use Rattle.step.specs.Call.{Call}
+use Rattle.call.specs.Call.{Call}
 use Rattle.plain.specs.Plain.{Plain}
 use Rattle.plain.specs.Play.{play}
 use Rattle.strip.specs.Shape.{plainBetween}

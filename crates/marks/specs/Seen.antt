@@ -4,7 +4,7 @@ use mathlib.Core.Bool.{Bool, _&&_}
 use mathlib.Core.List.{List, [], _∷_}
 use lib.Dec.{eqb}
 use Rattle.logic.specs.Pick.{pick}
-use Rattle.step.specs.Call.{Call, recordOf}
+use Rattle.call.specs.Call.{Call, recordOf}
 use Rattle.history.specs.Run.{State, lineOf, leaves}
 use Rattle.history.specs.Finished.{isResult}
 

@@ -12,8 +12,8 @@ use Rattle.logic.specs.Pick.{pick}
 use Rattle.party.specs.Record.{idle}
 use Rattle.party.specs.declared.Record.{Record}
 use Rattle.party.proofs.Refusals.{checked-is-small}
-use Rattle.step.specs.Call.{Call, partyOf, gate}
-use Rattle.step.proofs.Called.{gate-checked, past-gate, call-through, call-away}
+use Rattle.call.specs.Call.{Call, partyOf, gate}
+use Rattle.call.proofs.Called.{gate-checked, past-gate, call-through, call-away}
 use Rattle.entry.specs.OnRecord.{onRecordLeaves}
 use Rattle.entry.proofs.OnRecord.{turned-away, let-through}
 use Rattle.history.specs.Run.{State, lineOf, leaves}

@@ -8,7 +8,7 @@ use Rattle.logic.specs.Pick.{pick}
 use Rattle.party.specs.Answer.{numberOf, carriedOf}
 use Rattle.party.specs.declared.Record.{Record}
 use Rattle.party.specs.declared.Answered.{Answered}
-use Rattle.step.specs.Call.{Call, partyOf}
+use Rattle.call.specs.Call.{Call, partyOf}
 use Rattle.entry.specs.OnRecord.{onRecordOf}
 use Rattle.history.specs.Run.{Line, isStep, goesOn}
 use Rattle.run.specs.declared.Turn.{Turn}

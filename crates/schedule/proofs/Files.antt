@@ -11,7 +11,7 @@ use Rattle.logic.specs.Every.{Every}
 use Rattle.logic.proofs.Bools.{both, passed}
 use Rattle.text.specs.Writing.{Room}
 use Rattle.party.specs.Calls.{maxFits}
-use Rattle.step.specs.Call.{tableFits}
+use Rattle.call.specs.Call.{tableFits}
 use Rattle.strip.specs.Lay.{freshStrip, layRefusal, layLeaves, LayPromise}
 use Rattle.strip.specs.declared.Laid.{Laid}
 use Rattle.strip.proofs.Laying.{laid-leaves}
@@ -19,7 +19,8 @@ use Rattle.entry.proofs.Asks.{party-is}
 use Rattle.history.specs.Run.{noCall, endFrom}
 use Rattle.listing.specs.Listing.{runText, headerText, cellsText, listingText, longest}
 use Rattle.listing.proofs.Longest.{Narrow, no-listing-is-longer}
-use Rattle.schedule.specs.File.{isMarked, partiesAt, maxAt, divideAt, entriesOf, lengthFits, fileRefusal, callsFrom, callsOf}
+use Rattle.header.specs.Header.{isMarked, partiesAt, maxAt, versionAt, countsFit}
+use Rattle.schedule.specs.File.{divideAt, entriesOf, lengthFits, fileRefusal, callsFrom, callsOf}
 use Rattle.schedule.specs.List.{listingOf, firstOf}
 
 pub record Listable (file : List ℕ) : Type 0 where
@@ -36,10 +37,10 @@ pub listable : (file : List ℕ) → fileRefusal file ≡ 0 → Listable file
 unfolding fileRefusal
 listable file e =
     let long = passed (ltb (length file) 10) 0 _ e in
-    let marked = passed (not (isMarked file)) 1 _ (long .1) in
-    let fit = maxFits (maxAt file) && tableFits (partiesAt file) && lengthFits (length file) in
+    let marked = passed (not (isMarked 79 file && eqb (versionAt file) 1)) 1 _ (long .1) in
+    let fit = countsFit (maxAt file) (partiesAt file) && lengthFits (length file) in
     let fits = passed (not fit) 0 _ (marked .1) in
-    let each = both (maxFits (maxAt file) && tableFits (partiesAt file)) (lengthFits (length file)) (not-false fit (fits .0)) in
+    let each = both (countsFit (maxAt file) (partiesAt file)) (lengthFits (length file)) (not-false fit (fits .0)) in
     let sizes = both (maxFits (maxAt file)) (tableFits (partiesAt file)) (each .0) in
     let max = both (leb 1 (maxAt file)) (leb (maxAt file) 4094) (sizes .0) in
     let parties = both (leb 1 (partiesAt file)) (leb (partiesAt file) 16) (sizes .1) in

@@ -12,7 +12,8 @@ use native.Mathlib.Nat.{zero-add}
 use Rattle.logic.proofs.Bools.{both, passed}
 use Rattle.text.specs.Writing.{Puts}
 use Rattle.listing.specs.Listing.{longest}
-use Rattle.schedule.specs.File.{maxAt, fileRefusal}
+use Rattle.header.specs.Header.{maxAt}
+use Rattle.schedule.specs.File.{fileRefusal}
 use Rattle.schedule.specs.List.{listRefusal, listingOf, wordsAtEnd, ListPromise}
 
 pub record Clear (file : List ℕ) (words room : ℕ) : Type 0 where

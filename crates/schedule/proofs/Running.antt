@@ -7,7 +7,7 @@ use native.Mathlib.Omega.{arith}
 use native.Mathlib.Numerals.{add-one}
 use Rattle.party.specs.Record.{idle}
 use Rattle.party.specs.declared.Record.{Record}
-use Rattle.step.specs.Call.{Call}
+use Rattle.call.specs.Call.{Call}
 use Rattle.text.specs.Writing.{Puts}
 use Rattle.text.proofs.Puts.{Rest, rest-begins, rest-goes-on, rest-ends, puts-nothing}
 use Rattle.entry.specs.Entry.{callAt}

@@ -8,7 +8,8 @@ use lib.Dec.{eqb, leb}
 use Rattle.logic.specs.Pick.{pick}
 use Rattle.history.specs.Run.{State, endFrom}
 use Rattle.listing.specs.Listing.{firstState, listingText, longest}
-use Rattle.schedule.specs.File.{partiesAt, maxAt, divideAt, fileRefusal, callsOf}
+use Rattle.header.specs.Header.{partiesAt, maxAt}
+use Rattle.schedule.specs.File.{divideAt, fileRefusal, callsOf}
 use Rattle.schedule.specs.declared.Listed.{Listed}
 
 -- the strip is lent at its longest and the listing has room, whatever the file; then the file's own checks

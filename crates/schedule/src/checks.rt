@@ -1,23 +1,19 @@
 // The checks of a schedule file, in document 01's order.
 use crate::LONGEST;
+use header::counts_fit;
+use header::is_marked;
+use header::max;
+use header::parties;
+use header::version;
 use little::number_2;
 use logic::pick_u32;
 ghost use mathlib.Core.Path.{_≡_};
 ghost use mathlib.Core.Bool.{_&&_};
 ghost use Prim.Native.Nat.{_≤_};
 ghost use lib.ListN.{length};
-ghost use Rattle.party.specs.Calls.{maxFits};
-ghost use Rattle.step.specs.Call.{tableFits};
-ghost use Rattle.schedule.specs.File.{isMarked, maxAt, partiesAt, lengthFits, fileRefusal};
+ghost use Rattle.header.specs.Header.{partiesAt, maxAt, countsFit};
+ghost use Rattle.schedule.specs.File.{lengthFits, fileRefusal};
 ghost use Rattle.schedule.specs.List.{listRefusal};
-
-// "PDO" and version 1.
-fn is_marked(file: &[u8]) -> bool
-    requires { ⌜ 10 ≤ length (now file) ⌝ }
-    ensures { λ t. ⌜ t ≡ isMarked (now (file .entry)) ⌝ }
-{
-    (file[0] == b'P') & (file[1] == b'D') & (file[2] == b'O') & (number_2(file, 3) == 1)
-}
 
 fn length_fits(length: usize) -> bool
     requires { ⌜ 10 ≤ length ⌝ }
@@ -28,11 +24,9 @@ fn length_fits(length: usize) -> bool
 
 fn sizes_fit(file: &[u8]) -> bool
     requires { ⌜ 10 ≤ length (now file) ⌝ }
-    ensures { λ t. ⌜ t ≡ maxFits (maxAt (now (file .entry))) && tableFits (partiesAt (now (file .entry))) && lengthFits (length (now (file .entry))) ⌝ }
+    ensures { λ t. ⌜ t ≡ countsFit (maxAt (now (file .entry))) (partiesAt (now (file .entry))) && lengthFits (length (now (file .entry))) ⌝ }
 {
-    let max = number_2(file, 6);
-    let parties = file[5];
-    (1 <= max) & (max <= 4094) & ((1 <= parties) & (parties <= 16)) & length_fits(file.len())
+    counts_fit(max(file) as u32, parties(file) as u32) & length_fits(file.len())
 }
 
 fn file_refusal(file: &[u8]) -> u32
@@ -41,8 +35,9 @@ fn file_refusal(file: &[u8]) -> u32
     if file.len() < 10 {
         return 1;
     }
-    let outside = pick_u32(!(number_2(file, 8) <= number_2(file, 6)), 8, 0);
-    pick_u32(!is_marked(file), 2, pick_u32(!sizes_fit(file), 1, outside))
+    let outside = pick_u32(!(number_2(file, 8) <= max(file)), 8, 0);
+    let marked = is_marked(file, b'O') & (version(file) == 1);
+    pick_u32(!marked, 2, pick_u32(!sizes_fit(file), 1, outside))
 }
 
 pub fn list_refusal(file: &[u8], words: usize, room: usize) -> u32

@@ -13,7 +13,8 @@ ghost use Prim.Native.Nat.{_+_, _≤_};
 ghost use lib.ListN.{length};
 ghost use Rattle.text.specs.Writing.{Puts};
 ghost use Rattle.listing.specs.Listing.{longest};
-ghost use Rattle.schedule.specs.File.{maxAt, fileRefusal};
+ghost use Rattle.header.specs.Header.{maxAt};
+ghost use Rattle.schedule.specs.File.{fileRefusal};
 ghost use Rattle.schedule.specs.List.{listingOf, wordsAtEnd, ListPromise};
 
 // No listing is longer.

@@ -1,4 +1,4 @@
-use Rattle.step.specs.Call.{gate}
+use Rattle.call.specs.Call.{gate}
 use borrow.Author.Needs.{needs}
 use Rattle.entry.proofs.gate_of.Statement.{statement}
 use Rattle.entry.proofs.gate_of.Tie as tie

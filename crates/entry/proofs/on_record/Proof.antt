@@ -1,5 +1,5 @@
 use mathlib.Core.Path.{sym, _∙_}
-use Rattle.step.proofs.Called.{past-gate}
+use Rattle.call.proofs.Called.{past-gate}
 use Rattle.entry.proofs.OnRecord.{turned-away, let-through}
 use borrow.Author.Needs.{needs}
 use Rattle.entry.proofs.on_record.Statement.{statement}

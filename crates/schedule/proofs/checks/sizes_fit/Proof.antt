@@ -1,19 +1,39 @@
+use mathlib.Core.Path.{refl}
 use borrow.Author.Needs.{needs}
 use Rattle.schedule.proofs.checks.sizes_fit.Statement.{statement}
 use Rattle.schedule.proofs.checks.sizes_fit.Tie as tie
 
-number-2-requires : tie.Need-number-2-requires
-number-2-requires c κs = search needs
+max-requires : tie.Need-max-requires
+max-requires c κs = search needs
 
-shared-slice-read-parties : tie.Need-shared-slice-read-parties
-shared-slice-read-parties c = search needs
+cast-counts-fit : tie.Need-cast-counts-fit
+cast-counts-fit c = search needs
+
+parties-requires : tie.Need-parties-requires
+parties-requires c κs = search needs
+
+cast-counts-fit-2 : tie.Need-cast-counts-fit-2
+cast-counts-fit-2 c = search needs
+
+counts-fit-requires : tie.Need-counts-fit-requires
+counts-fit-requires c κs = search needs
 
 length-fits-requires : tie.Need-length-fits-requires
 length-fits-requires c κs = search needs
 
 returns : tie.Need-returns
-returns c = simp (c .length-fits .ensures, c .before .before .number-2 .ensures)
+returns c =
+    let counts = c .before in
+    rw (c .length-fits .ensures, counts .counts-fit .ensures, counts .before .parties .ensures, counts .before .before .max .ensures) refl
 
 pub sizes-fit-spec : {M : Type 1} → statement M
 sizes-fit-spec =
-    tie.close (tie.spec number-2-requires shared-slice-read-parties length-fits-requires returns)
+    tie.close
+    (tie.spec
+    max-requires
+    cast-counts-fit
+    parties-requires
+    cast-counts-fit-2
+    counts-fit-requires
+    length-fits-requires
+    returns)

@@ -2,7 +2,7 @@ use Prim.Native.Nat.{ℕ, _+_, _-_}
 use mathlib.Core.List.{List}
 use native.Mathlib.Omega.{arith}
 use lib.ListN.{set, length-set}
-use Rattle.step.specs.Call.{Call}
+use Rattle.call.specs.Call.{Call}
 use Rattle.entry.specs.Entry.{askedOf}
 use Rattle.history.specs.Run.{State}
 use Rattle.text.proofs.Puts.{rest-room, room-left}
