@@ -17,10 +17,10 @@ use Rattle.step.proofs.Cleared.{strip-within}
 use Rattle.plain.specs.Plain.{Plain}
 use Rattle.plain.specs.Play.{room, endOrder}
 use Rattle.strip.specs.Shape.{StandsFor, Bounds}
-use Rattle.strip.specs.Find.{isEnd}
+use Rattle.find.specs.Find.{isEnd}
 use Rattle.strip.proofs.Shapes.{strip-length, stands-for-bounds, past-left, before-right}
 use Rattle.strip.proofs.Values.{values-between}
-use Rattle.strip.proofs.FindShapes.{the-end-is-one}
+use Rattle.find.proofs.FindShapes.{the-end-is-one}
 use Rattle.invariant.proofs.Sides.{Placed, placed-in-range}
 
 -- k is the end of its side on the plain strip

@@ -8,10 +8,8 @@ use Rattle.plain.specs.Plain.{freshPlain}
 use Rattle.strip.specs.Shape.{StandsFor}
 use Rattle.strip.specs.Lay.{laidNumber, LayPromise}
 use Rattle.strip.specs.Measure.{measureOf}
-use Rattle.strip.specs.Find.{findOf}
 use Rattle.strip.specs.declared.Laid.{Laid}
 use Rattle.strip.specs.declared.Measured.{Measured}
-use Rattle.strip.specs.declared.Found.{Found}
 use Rattle.strip.proofs.Laying.{number-of-laid, refused-leaves, laid-leaves}
 use Rattle.strip.proofs.Values.{fresh-stands-for}
 
@@ -24,12 +22,7 @@ pub two-measures-that-keep-it-are-equal : (strip : List ℕ) {one two : Measured
     → one ≡ measureOf strip → two ≡ measureOf strip → one ≡ two
 two-measures-that-keep-it-are-equal strip p q = p ∙ sym q
 
--- for find right and find left alike
-pub two-finds-that-keep-it-are-equal : (operation : ℕ) (strip : List ℕ) {one two : Found}
-    → one ≡ findOf operation strip → two ≡ findOf operation strip → one ≡ two
-two-finds-that-keep-it-are-equal operation strip p q = p ∙ sym q
-
--- A refused lay leaves every word. Measure and find are lent the strip to be read alone.
+-- A refused lay leaves every word. Measure is lent the strip to be read alone.
 pub refused-lay-changes-nothing : (strip : List ℕ) (divide : ℕ) (got : Laid) (left : List ℕ)
     → LayPromise strip divide got left → (laidNumber got ≡ 0 → ⊥) → left ≡ strip
 refused-lay-changes-nothing strip divide got left p refused =

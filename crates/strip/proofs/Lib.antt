@@ -1,10 +1,8 @@
 pub mod Lists
 pub mod Laying
 pub mod Running
-pub mod Finding
 pub mod Measuring
 pub mod Values
 pub mod Shapes
 pub mod Kept
 pub mod MeasureShapes
-pub mod FindShapes

@@ -1,5 +1,4 @@
 pub mod Shape
 pub mod Lay
 pub mod Measure
-pub mod Find
 pub mod Inside

@@ -8,8 +8,8 @@ use Rattle.logic.specs.Pick.{pick}
 use Rattle.word.specs.Word.{valueAt}
 use Rattle.party.specs.Operation.{isRight, ownNull, neighbour}
 use Rattle.step.specs.Step.{stripFits, maxOf}
-use Rattle.strip.specs.declared.Found.{Found}
-use Rattle.strip.specs.declared.Found.the-variants.{Place, NotFound}
+use Rattle.find.specs.declared.Found.{Found}
+use Rattle.find.specs.declared.Found.the-variants.{Place, NotFound}
 
 -- the place holds own null and its neighbour does not
 abbrev pub isEnd : (operation : ℕ) (strip : List ℕ) (k : ℕ) → Bool

@@ -14,11 +14,11 @@ use Rattle.party.specs.Operation.{isRight, ownNull, neighbour, inRange}
 use Rattle.step.specs.Step.{stripFits, maxOf}
 use Rattle.step.proofs.Cleared.{strip-within}
 use Rattle.plain.specs.Plain.{Plain}
 use Rattle.strip.specs.Shape.{StandsFor, Bounds}
-use Rattle.strip.specs.Find.{isEnd, candidate, firstFrom, findOf}
-use Rattle.strip.specs.declared.Found.the-variants.{Place}
-use Rattle.strip.proofs.Finding.{find-starts}
+use Rattle.find.specs.Find.{isEnd, candidate, firstFrom, findOf}
+use Rattle.find.specs.declared.Found.the-variants.{Place}
+use Rattle.find.proofs.Finding.{find-starts}
 use Rattle.strip.proofs.Shapes.{stands-for-bounds, past-left, before-right}
 
 -- The first candidate that passes, after `far` that do not.
 first-is : (test : ℕ → Bool) (places : ℕ → ℕ) (far i at left : ℕ) → i + far ≡ at → far < left → test (places at) ≡ true

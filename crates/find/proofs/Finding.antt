@@ -7,9 +7,9 @@ use lib.ListN.{length}
 use native.Mathlib.Omega.{arith}
 use Rattle.step.specs.Step.{stripFits, maxOf}
 use Rattle.step.proofs.Cleared.{strip-within}
-use Rattle.strip.specs.Find.{isEnd, candidate, firstFrom, findOf}
-use Rattle.strip.specs.declared.Found.{Found}
-use Rattle.strip.specs.declared.Found.the-variants.{Place, NotFound}
+use Rattle.find.specs.Find.{isEnd, candidate, firstFrom, findOf}
+use Rattle.find.specs.declared.Found.{Found}
+use Rattle.find.specs.declared.Found.the-variants.{Place, NotFound}
 
 module _ (operation : ℕ) (strip : List ℕ) where
   pub find-refuses : stripFits (length strip) ≡ false → NotFound 1 ≡ findOf operation strip

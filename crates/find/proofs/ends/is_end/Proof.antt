@@ -1,6 +1,6 @@
 use borrow.Author.Needs.{needs}
-use Rattle.strip.proofs.ends.is_end.Statement.{statement}
-use Rattle.strip.proofs.ends.is_end.Tie as tie
+use Rattle.find.proofs.ends.is_end.Statement.{statement}
+use Rattle.find.proofs.ends.is_end.Tie as tie
 
 look-requires : tie.Need-look-requires
 look-requires c κs = search needs

@@ -9,10 +9,10 @@ use borrow.Author.Tests.{not-true, not-false}
 use native.Mathlib.Omega.{arith}
 use Rattle.step.specs.Step.{stripFits}
 use Rattle.step.proofs.Cleared.{strip-within}
-use Rattle.strip.specs.declared.Found.the-variants.{NotFound}
-use Rattle.strip.proofs.Finding.{Searching, find-refuses, find-starts, find-ends, find-stops, find-goes-on}
-use Rattle.strip.proofs.find_left.Statement.{statement}
-use Rattle.strip.proofs.find_left.Tie as tie
+use Rattle.find.specs.declared.Found.the-variants.{NotFound}
+use Rattle.find.proofs.Finding.{Searching, find-refuses, find-starts, find-ends, find-stops, find-goes-on}
+use Rattle.find.proofs.find_left.Statement.{statement}
+use Rattle.find.proofs.find_left.Tie as tie
 
 abbrev Inv-loop : tie.InvT-loop
 Inv-loop strip found₀ k₀ found k = (k + 1 ≤ length strip) × (found ≡ NotFound 10) × Searching 2 strip (length strip - 1 - k) k
