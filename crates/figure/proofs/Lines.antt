@@ -17,11 +17,11 @@ use Rattle.party.specs.Valid.{isIdle}
 use Rattle.party.specs.Answer.{isRefusal, numberOf, goingOn}
 use Rattle.party.specs.declared.Record.{Record}
 use Rattle.party.specs.declared.Answered.{Answered}
-use Rattle.step.specs.Stages.{accessOf}
-use Rattle.step.specs.Follow.{judgeOf, recheckOf, wonOf, swappedOf}
+use Rattle.stages.specs.Stages.{accessOf}
+use Rattle.stages.specs.Follow.{judgeOf, recheckOf, wonOf, swappedOf}
 use Rattle.step.specs.Step.{maxOf, stepRefusal, stepOf, stepLeaves}
-use Rattle.step.specs.declared.AfterSwap.{AfterSwap}
-use Rattle.step.specs.declared.AfterSwap.the-variants.{Onward, Push, Pop}
+use Rattle.stages.specs.declared.AfterSwap.{AfterSwap}
+use Rattle.stages.specs.declared.AfterSwap.the-variants.{Onward, Push, Pop}
 use Rattle.party.proofs.Stages.{ValidAt, valid-at}
 use Rattle.party.proofs.Refusals.{Checked, refusal-is-not-0}
 use Rattle.step.proofs.Cleared.{steppable}

@@ -22,13 +22,13 @@ use Rattle.party.specs.Calls.{startRefusal, startOf, withdrawRefusal, withdrawO
 use Rattle.party.specs.declared.Record.{Record}
 use Rattle.party.specs.declared.Answered.{Answered}
 use Rattle.party.proofs.Cleared.{startable}
-use Rattle.step.specs.Stages.{accessOf}
-use Rattle.step.specs.Follow.{swappedOf}
+use Rattle.stages.specs.Stages.{accessOf}
+use Rattle.stages.specs.Follow.{swappedOf}
 use Rattle.step.specs.Step.{maxOf, stepRefusal, aimed, followed, written, stepOf, stepLeaves}
 use Rattle.call.specs.Call.{Call, Fitting, ownOf, ownLeaves}
 use Rattle.call.specs.Call.Call.{start, step, withdraw}
-use Rattle.step.specs.declared.Access.{Access}
-use Rattle.step.specs.declared.Access.the-variants.{Look, Swap}
+use Rattle.stages.specs.declared.Access.{Access}
+use Rattle.stages.specs.declared.Access.the-variants.{Look, Swap}
 use Rattle.step.proofs.Cleared.{steppable, hint-fits-k}
 use Rattle.format.specs.Format.{wordPlace, partyPlace, wordsBase}
 use Rattle.format.specs.Spelling.{stripOf, tableOf, RecordFits}
@@ -38,7 +38,7 @@ use Rattle.format.proofs.Records.{read-record-fits}
 use Rattle.image.proofs.Widths.{idle-fits, begun-fits, aimed-fits, looked-fits, swapped-fits}
 use Rattle.format.proofs.Spelled.{strip-length, table-length, word-is-read, record-is-read}
 use Rattle.party.specs.Operation.{isPush, isRight}
-use Rattle.step.specs.Stages.{own}
+use Rattle.stages.specs.Stages.{own}
 
 pub words-fit : (image : List ℕ) → AreBytes image → Every IsWord 0 (stripOf image)
 words-fit image are i within =

@@ -12,8 +12,8 @@ use Rattle.party.specs.Answer.{goingOn}
 use Rattle.party.specs.declared.Record.{Record}
 use Rattle.party.specs.declared.Answer.{Answer}
 use Rattle.party.specs.declared.Answer.the-variants.{GoesOn, Refused}
-use Rattle.step.specs.Follow.{wonOf, swappedOf}
-use Rattle.step.specs.declared.AfterSwap.{AfterSwap}
+use Rattle.stages.specs.Follow.{wonOf, swappedOf}
+use Rattle.stages.specs.declared.AfterSwap.{AfterSwap}
 use Rattle.little.specs.Bytes.{bytesOf}
 use Rattle.format.specs.Format.{wordPlace}
 use Rattle.header.specs.Header.{versionAt}

@@ -18,15 +18,15 @@ use Rattle.party.specs.Calls.{startOwn, startRefusal, startOf, withdrawOwn, wit
 use Rattle.party.specs.declared.Record.{Record}
 use Rattle.party.specs.declared.Answer.the-variants.{GoesOn}
 use Rattle.party.proofs.Cleared.{max-within}
-use Rattle.step.specs.Stages.{near, accessOf}
-use Rattle.step.specs.Follow.{lookedOf, swappedOf}
+use Rattle.stages.specs.Stages.{near, accessOf}
+use Rattle.stages.specs.Follow.{lookedOf, swappedOf}
 use Rattle.step.specs.Step.{maxOf, stepOwn, stepRefusal, aimed}
 use Rattle.call.specs.Call.{Call}
-use Rattle.step.specs.declared.Access.{Access}
-use Rattle.step.specs.declared.Access.the-variants.{Look, Swap}
-use Rattle.step.specs.declared.AfterLook.{AfterLook}
-use Rattle.step.specs.declared.AfterLook.the-variants.{Remember}
-use Rattle.step.specs.declared.AfterSwap.{AfterSwap}
+use Rattle.stages.specs.declared.Access.{Access}
+use Rattle.stages.specs.declared.Access.the-variants.{Look, Swap}
+use Rattle.stages.specs.declared.AfterLook.{AfterLook}
+use Rattle.stages.specs.declared.AfterLook.the-variants.{Remember}
+use Rattle.stages.specs.declared.AfterSwap.{AfterSwap}
 use Rattle.step.proofs.Cleared.{Steppable, steppable, placeOf, place-inside, hint-fits-k}
 use Rattle.step.proofs.Accesses.{Gone, when-refused, when-looks, when-swaps}
 use Rattle.step.proofs.EachStage.{aimed-later}

@@ -12,13 +12,13 @@ use Rattle.party.specs.Calls.{startOwn, withdrawOwn}
 use Rattle.party.specs.declared.Record.{Record}
 use Rattle.party.specs.declared.Answer.{Answer}
 use Rattle.party.specs.declared.Answer.the-variants.{GoesOn, Refused}
-use Rattle.step.specs.Stages.{accessOf}
+use Rattle.stages.specs.Stages.{accessOf}
 use Rattle.step.specs.Step.{stepOwn, aimed}
 use Rattle.call.specs.Call.{Call, partyOf, isUnknown}
-use Rattle.step.specs.declared.Access.{Access}
-use Rattle.step.specs.declared.Access.the-variants.{Look, Swap}
-use Rattle.step.specs.declared.AfterLook.{AfterLook}
-use Rattle.step.specs.declared.AfterSwap.{AfterSwap}
+use Rattle.stages.specs.declared.Access.{Access}
+use Rattle.stages.specs.declared.Access.the-variants.{Look, Swap}
+use Rattle.stages.specs.declared.AfterLook.{AfterLook}
+use Rattle.stages.specs.declared.AfterSwap.{AfterSwap}
 use Rattle.step.proofs.Cleared.{placeOf}
 use Rattle.header.specs.Header.{maxAt, versionAt}
 use Rattle.format.specs.Format.{wordPlace, wordsBase}

@@ -13,12 +13,12 @@ use Rattle.word.specs.declared.Swapped.the-variants.{Won, Lost, Stuck}
 use Rattle.party.specs.Record.{idle, begun, withPlace}
 use Rattle.party.specs.declared.Record.{Record}
 use Rattle.party.specs.declared.Answered.{Answered}
-use Rattle.step.specs.Follow.{misled, pushAtWall, popAtFar, judgeOf, recheckOf, lookedOf, swappedOf}
+use Rattle.stages.specs.Follow.{misled, pushAtWall, popAtFar, judgeOf, recheckOf, lookedOf, swappedOf}
 use Rattle.step.specs.Step.{aimed}
-use Rattle.step.specs.declared.AfterLook.{AfterLook}
-use Rattle.step.specs.declared.AfterLook.the-variants.{Remember, Judge, Recheck}
-use Rattle.step.specs.declared.AfterSwap.{AfterSwap}
-use Rattle.step.specs.declared.AfterSwap.the-variants.{Onward, Push, Pop}
+use Rattle.stages.specs.declared.AfterLook.{AfterLook}
+use Rattle.stages.specs.declared.AfterLook.the-variants.{Remember, Judge, Recheck}
+use Rattle.stages.specs.declared.AfterSwap.{AfterSwap}
+use Rattle.stages.specs.declared.AfterSwap.the-variants.{Onward, Push, Pop}
 use Rattle.format.specs.Spelling.{RecordFits}
 
 pub idle-fits : RecordFits idle

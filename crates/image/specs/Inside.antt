@@ -10,9 +10,9 @@ use Rattle.word.specs.declared.Swapped.the-variants.{Won, Lost, Stuck}
 use Rattle.party.specs.declared.Record.{Record}
 use Rattle.party.specs.declared.Answer.{Answer}
 use Rattle.party.specs.declared.Answered.{Answered}
-use Rattle.step.specs.Follow.{lookedOf, swappedOf}
-use Rattle.step.specs.declared.AfterLook.{AfterLook}
-use Rattle.step.specs.declared.AfterSwap.{AfterSwap}
+use Rattle.stages.specs.Follow.{lookedOf, swappedOf}
+use Rattle.stages.specs.declared.AfterLook.{AfterLook}
+use Rattle.stages.specs.declared.AfterSwap.{AfterSwap}
 use Rattle.little.specs.Bytes.{numberAt, bytesOf}
 use Rattle.header.specs.Header.{versionAt}
 use Rattle.format.specs.Format.{wordPlace}

@@ -16,9 +16,9 @@ use party::make::begun_record;
 use party::make::idle_record;
 use party::start_own;
 use party::withdraw_own;
-use step::Access;
+use stages::Access;
+use stages::access_of;
 use step::aim;
-use step::stages::access;
 use step::step_own;
 ghost use Rattle.call.specs.Call.{Call};
 ghost use Rattle.image.specs.Calls.{layOf, imageOf, ImagePromise};
@@ -74,7 +74,7 @@ pub fn step(image: &mut [u8], party: u32, hint: u32) -> Answer
         return Answer::Refused(number);
     }
     let aimed = aim(r, hint);
-    match access(aimed) {
+    match access_of(aimed) {
         Access::Look(place, then) => make_look(
             image,
             WORDS,

@@ -11,7 +11,7 @@ use Rattle.word.specs.Word.{valueOf, valueAt}
 use Rattle.party.specs.Operation.{isRight, wall}
 use Rattle.party.specs.Valid.{placeFits, atWall}
 use Rattle.party.specs.declared.Record.{Record}
-use Rattle.step.specs.Stages.{near, own, far}
+use Rattle.stages.specs.Stages.{near, own, far}
 use Rattle.step.specs.Step.{stripFits, maxOf}
 use Rattle.step.proofs.Cleared.{strip-within}
 use Rattle.plain.specs.Plain.{Plain}

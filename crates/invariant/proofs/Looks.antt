@@ -16,7 +16,7 @@ use Rattle.party.specs.Answer.{goingOn}
 use Rattle.party.specs.declared.Record.{Record}
 use Rattle.party.specs.declared.Answered.{Answered}
 use Rattle.party.specs.declared.Answer.the-variants.{GoesOn}
-use Rattle.step.specs.Stages.{near, own, far}
+use Rattle.stages.specs.Stages.{near, own, far}
 use Rattle.step.specs.Step.{stripFits, maxOf, stepOf, stepLeaves}
 use Rattle.step.proofs.Cleared.{Steppable}
 use Rattle.step.proofs.Accesses.{Gone}

@@ -13,8 +13,8 @@ use Rattle.party.specs.Record.{idle, atStage, withSecond}
 use Rattle.party.specs.Valid.{validOf}
 use Rattle.party.specs.declared.Record.{Record}
 use Rattle.party.proofs.Kept.{idle-is-valid}
-use Rattle.step.specs.Stages.{own, far, atPlace, atNear}
-use Rattle.step.specs.Follow.{popAtFar}
+use Rattle.stages.specs.Stages.{own, far, atPlace, atNear}
+use Rattle.stages.specs.Follow.{popAtFar}
 use Rattle.step.specs.Step.{maxOf}
 use Rattle.step.proofs.Went.{NotMisled}
 use Rattle.invariant.specs.Invariant.{FreshFirst, FreshSecond, Sound}

@@ -13,7 +13,7 @@ use Rattle.swaps.proofs.Claims.{apart-kept}
 use Rattle.party.specs.Operation.{isPush}
 use Rattle.party.specs.Valid.{validOf}
 use Rattle.party.specs.declared.Record.{Record}
-use Rattle.step.specs.Stages.{near, own}
+use Rattle.stages.specs.Stages.{near, own}
 use Rattle.step.specs.Step.{maxOf}
 use Rattle.invariant.specs.Invariant.{FreshFirst, FreshSecond, Sound, claimOf, Clear}
 

@@ -15,8 +15,8 @@ use Rattle.party.specs.Answer.{numberOf}
 use Rattle.party.specs.declared.Record.{Record}
 use Rattle.party.specs.declared.Answer.{Answer}
 use Rattle.party.proofs.Refusals.{refusal-is-not-0}
-use Rattle.step.specs.Stages.{near}
-use Rattle.step.specs.Follow.{pushAtWall}
+use Rattle.stages.specs.Stages.{near}
+use Rattle.stages.specs.Follow.{pushAtWall}
 use Rattle.step.specs.Step.{stripFits, maxOf, stepOf, stepLeaves}
 use Rattle.call.specs.Call.{Call, partyOf, callOf}
 use Rattle.plain.specs.Plain.{Plain}

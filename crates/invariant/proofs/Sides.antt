@@ -15,7 +15,7 @@ use Rattle.party.specs.Operation.{isRight, isPush, orderFits}
 use Rattle.party.specs.Valid.{validOf, placeFits}
 use Rattle.party.specs.declared.Record.{Record}
 use Rattle.party.proofs.Stages.{ValidAt, valid-at, busy-fits}
-use Rattle.step.specs.Stages.{near, own, far, atPlace, atNear}
+use Rattle.stages.specs.Stages.{near, own, far, atPlace, atNear}
 use Rattle.step.specs.Step.{stripFits, maxOf}
 use Rattle.step.proofs.Cleared.{strip-within}
 

@@ -21,7 +21,7 @@ use Rattle.party.specs.declared.Answer.{Answer}
 use Rattle.party.specs.declared.Answered.{Answered}
 use Rattle.party.specs.declared.Answer.the-variants.{GoesOn, Pushed, Popped, Full, Empty}
 use Rattle.party.proofs.Stages.{stage-3-fits, stage-5-fits}
-use Rattle.step.specs.Stages.{near, own, far, atPlace, atNear}
+use Rattle.stages.specs.Stages.{near, own, far, atPlace, atNear}
 use Rattle.step.specs.Step.{stripFits, maxOf, stepOf, stepLeaves}
 use Rattle.step.proofs.Accesses.{Gone}
 use Rattle.step.proofs.Went.{GoneOn}

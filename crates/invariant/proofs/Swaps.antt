@@ -16,7 +16,7 @@ use Rattle.party.specs.Operation.{isPush}
 use Rattle.party.specs.Record.{idle, atStage}
 use Rattle.party.specs.Valid.{validOf}
 use Rattle.party.specs.declared.Record.{Record}
-use Rattle.step.specs.Stages.{near, own, atPlace, atNear}
+use Rattle.stages.specs.Stages.{near, own, atPlace, atNear}
 use Rattle.step.specs.Step.{stripFits, maxOf}
 use Rattle.invariant.specs.Invariant.{FreshFirst, FreshSecond, Sound, claimOf, Sane}
 use Rattle.invariant.proofs.Sides.{Sides, sides, own-is-null, Placed, placed, one-place, one-neighbour, order-is, wins-at-place, wins-at-near}

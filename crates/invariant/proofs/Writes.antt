@@ -10,7 +10,7 @@ use Rattle.word.specs.Word.{IsWord, valueOf, counterOf, raisedTo}
 use Rattle.word.proofs.Laws.{raised-is-word}
 use Rattle.party.specs.Record.{idle}
 use Rattle.party.specs.declared.Record.{Record}
-use Rattle.step.specs.Stages.{own}
+use Rattle.stages.specs.Stages.{own}
 use Rattle.step.specs.Step.{stepLeaves}
 use Rattle.call.specs.Call.{Call, recordOf, callOf}
 use Rattle.step.proofs.Cleared.{Steppable}

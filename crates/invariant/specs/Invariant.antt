@@ -14,7 +14,7 @@ use Rattle.party.specs.Operation.{isPush}
 use Rattle.party.specs.Record.{idle}
 use Rattle.party.specs.Valid.{validOf}
 use Rattle.party.specs.declared.Record.{Record}
-use Rattle.step.specs.Stages.{near, own, far, atPlace, atNear}
+use Rattle.stages.specs.Stages.{near, own, far, atPlace, atNear}
 use Rattle.step.specs.Step.{maxOf}
 
 abbrev pub FreshFirst : List ℕ → Record → Type 0

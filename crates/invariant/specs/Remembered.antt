@@ -11,8 +11,8 @@ use Rattle.party.specs.declared.Record.{Record}
 use Rattle.party.specs.declared.Answer.{Answer}
 use Rattle.plain.specs.Plain.{Plain}
 use Rattle.plain.specs.Play.{room, Yields}
-use Rattle.step.specs.Stages.{own}
-use Rattle.step.specs.Follow.{pushAtWall}
+use Rattle.stages.specs.Stages.{own}
+use Rattle.stages.specs.Follow.{pushAtWall}
 use Rattle.step.specs.Step.{maxOf}
 use Rattle.invariant.specs.Invariant.{FreshFirst}
 

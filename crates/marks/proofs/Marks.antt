@@ -3,8 +3,8 @@ use mathlib.Core.Path.{_≡_, refl}
 use mathlib.Core.Bool.{true, _&&_}
 use Rattle.party.specs.Valid.{validOf}
 use Rattle.party.specs.Calls.{startOwn, startRefusal, startOf}
-use Rattle.step.specs.Stages.{accessOf}
-use Rattle.step.specs.Follow.{judgeOf, recheckOf}
+use Rattle.stages.specs.Stages.{accessOf}
+use Rattle.stages.specs.Follow.{judgeOf, recheckOf}
 use Rattle.step.specs.Step.{stepOwn, stepRefusal, stepOf, stepLeaves}
 use Rattle.call.specs.Call.{gate, callOf}
 use Rattle.strip.specs.Measure.{measureOf}

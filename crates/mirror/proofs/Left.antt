@@ -18,11 +18,11 @@ use Rattle.party.specs.Answer.{refused}
 use Rattle.party.specs.declared.Record.{Record}
 use Rattle.party.specs.declared.Answered.{Answered}
 use Rattle.party.specs.declared.Answer.the-variants.{Popped}
-use Rattle.step.specs.Stages.{accessOf}
-use Rattle.step.specs.Follow.{judgeOf, recheckOf, wonOf, swappedOf}
+use Rattle.stages.specs.Stages.{accessOf}
+use Rattle.stages.specs.Follow.{judgeOf, recheckOf, wonOf, swappedOf}
 use Rattle.step.specs.Step.{stripFits, maxOf, stepRefusal, aimed, followed, written, stepOf, stepLeaves}
-use Rattle.step.specs.declared.AfterSwap.{AfterSwap}
-use Rattle.step.specs.declared.AfterSwap.the-variants.{Onward, Push, Pop}
+use Rattle.stages.specs.declared.AfterSwap.{AfterSwap}
+use Rattle.stages.specs.declared.AfterSwap.the-variants.{Onward, Push, Pop}
 use Rattle.word.specs.declared.Swapped.{Swapped}
 use Rattle.word.specs.declared.Swapped.the-variants.{Won, Lost, Stuck}
 use Rattle.step.proofs.Cleared.{Steppable, steppable, strip-within}

@@ -9,12 +9,12 @@ use Rattle.word.specs.declared.Swapped.{Swapped}
 use Rattle.party.specs.Answer.{refused}
 use Rattle.party.specs.declared.Record.{Record}
 use Rattle.party.specs.declared.Answered.{Answered}
-use Rattle.step.specs.Stages.{accessOf}
-use Rattle.step.specs.Follow.{lookedOf, swappedOf}
+use Rattle.stages.specs.Stages.{accessOf}
+use Rattle.stages.specs.Follow.{lookedOf, swappedOf}
 use Rattle.step.specs.Step.{maxOf, stepRefusal, aimed, stepOf, stepLeaves}
-use Rattle.step.specs.declared.AfterLook.{AfterLook}
-use Rattle.step.specs.declared.AfterSwap.{AfterSwap}
-use Rattle.step.specs.declared.Access.the-variants.{Look, Swap}
+use Rattle.stages.specs.declared.AfterLook.{AfterLook}
+use Rattle.stages.specs.declared.AfterSwap.{AfterSwap}
+use Rattle.stages.specs.declared.Access.the-variants.{Look, Swap}
 
 module _ (strip : List ℕ) (r : Record) (hint : ℕ) where
   pub record Gone (given : Answered) (left : List ℕ) : Type 0 where

@@ -11,10 +11,10 @@ use Rattle.party.specs.Valid.{isIdle, validOf, placeFits}
 use Rattle.party.specs.declared.Record.{Record}
 use Rattle.party.proofs.Stages.{ValidAt, valid-at}
 use Rattle.party.proofs.Places.{inside}
-use Rattle.step.specs.Stages.{near, accessOf}
+use Rattle.stages.specs.Stages.{near, accessOf}
 use Rattle.step.specs.Step.{stripFits, maxOf, hintFits, stepOwn, stepRefusal, aimed}
-use Rattle.step.specs.declared.Access.{Access}
-use Rattle.step.specs.declared.Access.the-variants.{Look, Swap}
+use Rattle.stages.specs.declared.Access.{Access}
+use Rattle.stages.specs.declared.Access.the-variants.{Look, Swap}
 
 pub strip-within : (words : ℕ) → stripFits words ≡ true → (3 ≤ words) × (words ≤ 4096)
 strip-within words e =

@@ -7,11 +7,11 @@ use Rattle.word.specs.Word.{valueOf}
 use Rattle.party.specs.Operation.{isPush}
 use Rattle.party.specs.Record.{withPlace}
 use Rattle.party.specs.declared.Record.{Record}
-use Rattle.step.specs.Stages.{near, own, accessOf}
+use Rattle.stages.specs.Stages.{near, own, accessOf}
 use Rattle.step.specs.Step.{aimed}
-use Rattle.step.specs.declared.AfterLook.the-variants.{Remember, Judge, Recheck}
-use Rattle.step.specs.declared.AfterSwap.the-variants.{Onward, Push, Pop}
-use Rattle.step.specs.declared.Access.the-variants.{Look, Swap}
+use Rattle.stages.specs.declared.AfterLook.the-variants.{Remember, Judge, Recheck}
+use Rattle.stages.specs.declared.AfterSwap.the-variants.{Onward, Push, Pop}
+use Rattle.stages.specs.declared.Access.the-variants.{Look, Swap}
 
 pub stage-1 : (r : Record) → r .stage ≡ 1 → accessOf r ≡ Look (near r) Remember
 unfolding accessOf

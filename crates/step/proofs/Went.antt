@@ -21,11 +21,11 @@ use Rattle.party.specs.declared.Record.{Record}
 use Rattle.party.specs.declared.Answer.the-variants.{Pushed, Popped, Full, Empty}
 use Rattle.party.proofs.Stages.{ValidAt, valid-at}
 use Rattle.party.proofs.Refusals.{Checked, refusal-is-not-0}
-use Rattle.step.specs.Stages.{near, own, atPlace, atNear, accessOf}
-use Rattle.step.specs.Follow.{pushAtWall, popAtFar, judgeOf, recheckOf, wonOf, swappedOf}
+use Rattle.stages.specs.Stages.{near, own, atPlace, atNear, accessOf}
+use Rattle.stages.specs.Follow.{pushAtWall, popAtFar, judgeOf, recheckOf, wonOf, swappedOf}
 use Rattle.step.specs.Step.{stripFits, maxOf, hintFits, stepOwn, stepRefusal}
-use Rattle.step.specs.declared.AfterSwap.{AfterSwap}
-use Rattle.step.specs.declared.Access.the-variants.{Swap}
+use Rattle.stages.specs.declared.AfterSwap.{AfterSwap}
+use Rattle.stages.specs.declared.Access.the-variants.{Swap}
 use Rattle.step.proofs.Cleared.{Steppable, steppable}
 use Rattle.step.proofs.Accesses.{Gone, when-refused, when-looks, when-swaps}
 use Rattle.step.proofs.EachStage.{stage-1, stage-2, stage-3, stage-4-push, stage-4-pop, stage-5-push, stage-5-pop, aimed-first, aimed-later}

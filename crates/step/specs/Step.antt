@@ -14,10 +14,10 @@ use Rattle.party.specs.Valid.{isIdle, validOf}
 use Rattle.party.specs.Answer.{unless}
 use Rattle.party.specs.declared.Record.{Record}
 use Rattle.party.specs.declared.Answered.{Answered}
-use Rattle.step.specs.Stages.{accessOf}
-use Rattle.step.specs.Follow.{lookedOf, swappedOf}
-use Rattle.step.specs.declared.Access.{Access}
-use Rattle.step.specs.declared.Access.the-variants.{Look, Swap}
+use Rattle.stages.specs.Stages.{accessOf}
+use Rattle.stages.specs.Follow.{lookedOf, swappedOf}
+use Rattle.stages.specs.declared.Access.{Access}
+use Rattle.stages.specs.declared.Access.the-variants.{Look, Swap}
 
 -- a strip has MAX+2 words, 3 to 4,096
 abbrev pub stripFits : (words : ℕ) → Bool

@@ -1,41 +1,19 @@
-// The step: the table of stages, and one access for each call.
-pub mod follow;
-pub mod stages;
-
-use crate::follow::looked;
-use crate::follow::swapped;
-use crate::stages::access;
+// The step: one access for each call.
 use party::Answered;
 use party::Record;
 use party::make::refused_with;
 use party::make::with_place;
 use party::side::in_range;
 use party::valid::is_valid;
+use stages::Access;
+use stages::access_of;
+use stages::follow::looked;
+use stages::follow::swapped;
 use word::look;
 use word::swap;
 ghost use mathlib.Core.Path.{_≡_};
 ghost use Prim.Native.Nat.{_<_};
 ghost use Rattle.step.specs.Step.{stripFits, hintFits, stepOwn, stepRefusal, aimed, StepPromise};
-
-// What follows a look: the word is remembered as the first; as the second, and judged; or rechecks the first.
-pub enum AfterLook {
-    Remember,
-    Judge,
-    Recheck,
-}
-
-// What follows a swap that won: stage 5, or the push or the pop is done. One that lost goes to stage 1.
-pub enum AfterSwap {
-    Onward,
-    Push,
-    Pop,
-}
-
-// What a stage does: one access, and what follows it. A swap goes from a word to a value.
-pub enum Access {
-    Look(u32, AfterLook),
-    Swap(u32, u64, u32, AfterSwap),
-}
 
 // Public for the calls on a whole strip.
 pub fn strip_fits(words: usize) -> bool
@@ -96,7 +74,7 @@ pub fn step(strip: &mut [u64], r: Record, hint: u32) -> Answered
     }
     let max = (strip.len() - 2) as u16;
     let at = aim(r, hint);
-    match access(at) {
+    match access_of(at) {
         Access::Look(place, then) => looked(max, at, then, look(strip, place as usize)),
         Access::Swap(place, from, to, then) => swapped(
             at,

@@ -11,7 +11,7 @@ use Rattle.party.specs.Answer.{isRefusal}
 use Rattle.party.specs.Calls.{startOf, withdrawOf}
 use Rattle.party.specs.declared.Record.{Record}
 use Rattle.party.specs.declared.Answered.{Answered}
-use Rattle.step.specs.Stages.{near}
+use Rattle.stages.specs.Stages.{near}
 use Rattle.step.specs.Step.{maxOf, stepLeaves}
 use Rattle.call.specs.Call.{Call, partyOf, gate, ownOf, ownLeaves, recordOf, callOf}
 use Rattle.call.proofs.Calls.{refused-call-changes-nothing, other-records-stand}

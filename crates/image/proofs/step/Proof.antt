@@ -6,7 +6,7 @@ use denote.Ref.{now}
 use native.Mathlib.Omega.{arith}
 use Rattle.little.proofs.Digits.{AreBytes}
 use Rattle.call.specs.Call.{Call}
-use Rattle.step.specs.declared.Access.{Access}
+use Rattle.stages.specs.declared.Access.{Access}
 use Rattle.step.proofs.Cleared.{placeOf}
 use Rattle.format.specs.Format.{wordPlace, wordsBase}
 use Rattle.image.proofs.Promised.{keeps-stopped, room, Weighed, keeps-step-refused, hint-fits-k, access-room, keeps-look, keeps-swap}
@@ -43,11 +43,11 @@ roomy c =
     let f = found (c .before) in
     room (image-of f) (Call.step _ (f .before .before .before .args .hint)) (f .read-named .result) (bytes-of f) (f .read-named .ensures) (c .before .before .before .before .if1 .left)
 
-inside-at : (c : tie.After-access) (l : Access) → c .access .result ≡ l
+inside-at : (c : tie.After-access-of) (l : Access) → c .access-of .result ≡ l
     → wordPlace wordsBase (placeOf l) + 8 ≤ length (image-of (found (c .before .before .before)))
 inside-at c l e =
     let past = c .before .before in
-    access-room _ _ _ _ _ _ (weighed (past .before)) (past .if2 .left) _ (c .before .aim .ensures) l (sym (c .access .ensures) ∙ e)
+    access-room _ _ _ _ _ _ (weighed (past .before)) (past .if2 .left) _ (c .before .aim .ensures) l (sym (c .access-of .ensures) ∙ e)
 
 read-named-requires : tie.Need-read-named-requires
 read-named-requires c κs = search needs
@@ -77,8 +77,8 @@ returns-2 c = keeps-step-refused _ _ _ _ _ _ (weighed (c .before)) (c .if2 .take
 aim-requires : tie.Need-aim-requires
 aim-requires c κs = hint-fits-k _ _ _ _ _ _ (weighed (c .before)) (c .if2 .left)
 
-access-requires : tie.Need-access-requires
-access-requires c κs = search needs
+access-of-requires : tie.Need-access-of-requires
+access-of-requires c κs = search needs
 
 enum-known-place : tie.Need-enum-known-place
 enum-known-place c = search needs
@@ -108,7 +108,7 @@ returns-3 c =
     let met = at .before .before in
     let past = met .before .before in
     keeps-look _ _ _ _ _ _ (weighed (past .before)) (past .if2 .left) _ (met .before .aim .ensures) _ _
-    (sym (met .access .ensures) ∙ at .place .given .1) (made .make-look .ensures)
+    (sym (met .access-of .ensures) ∙ at .place .given .1) (made .make-look .ensures)
 
 same-length-4 : tie.Need-same-length-4
 same-length-4 c = search needs
@@ -120,7 +120,7 @@ returns-4 c =
     let met = at .before .before in
     let past = met .before .before in
     keeps-swap _ _ _ _ _ _ (weighed (past .before)) (past .if2 .left) _ (met .before .aim .ensures) _ _ _ _
-    (sym (met .access .ensures) ∙ at .place2 .given .1) (made .make-swap .ensures)
+    (sym (met .access-of .ensures) ∙ at .place2 .given .1) (made .make-swap .ensures)
 
 pub step-spec : {M : Type 1} → statement M
 step-spec =
@@ -134,7 +134,7 @@ step-spec =
     same-length-2
     returns-2
     aim-requires
-    access-requires
+    access-of-requires
     enum-known-place
     make-look-requires
     enum-known-place-2

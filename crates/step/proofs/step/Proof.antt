@@ -3,9 +3,9 @@ use Prim.Native.Nat.{ℕ, _<_}
 use mathlib.Core.List.{List}
 use mathlib.Core.Path.{_≡_, sym, _∙_, ap, subst}
 use Rattle.party.specs.declared.Record.{Record}
-use Rattle.step.specs.Stages.{accessOf}
+use Rattle.stages.specs.Stages.{accessOf}
 use Rattle.step.specs.Step.{stepRefusal}
-use Rattle.step.specs.declared.Access.{Access}
+use Rattle.stages.specs.declared.Access.{Access}
 use denote.Ref.{now}
 use lib.ListN.{length}
 use Rattle.party.specs.Answer.{refused}
@@ -33,10 +33,10 @@ cleared : (c : tie.Else1) → Steppable (length (strip-of c)) (record-of c) (hin
 cleared c = steppable _ _ _ (passes c)
 
 -- the place of the access that was found is inside the strip
-inside-at : (c : tie.After-access) (l : Access) → c .access .result ≡ l → placeOf l < length (strip-of (c .before .before))
+inside-at : (c : tie.After-access-of) (l : Access) → c .access-of .result ≡ l → placeOf l < length (strip-of (c .before .before))
 inside-at c l e =
     subst (λ (m : Access). placeOf m < length (strip-of (c .before .before)))
-    (ap accessOf (sym (c .before .aim .ensures)) ∙ sym (c .access .ensures) ∙ e)
+    (ap accessOf (sym (c .before .aim .ensures)) ∙ sym (c .access-of .ensures) ∙ e)
     (place-inside _ _ _ (cleared (c .before .before)))
 
 step-refusal-requires : tie.Need-step-refusal-requires
@@ -64,8 +64,8 @@ cast-max c = omega (arith, strip-within (length (strip-of c)) (cleared c .strip-
 aim-requires : tie.Need-aim-requires
 aim-requires c κs = hint-fits-k _ _ _ (cleared c)
 
-access-requires : tie.Need-access-requires
-access-requires c κs = search needs
+access-of-requires : tie.Need-access-of-requires
+access-of-requires c κs = search needs
 
 enum-known-place : tie.Need-enum-known-place
 enum-known-place c = search needs
@@ -102,7 +102,7 @@ returns-2 : tie.Need-returns-2
 returns-2 c =
     let found = c .before .before .before .before in
     let at = found .before .before in
-    let access = sym (at .access .ensures) ∙ found .place .given .1 in
+    let access = sym (at .access-of .ensures) ∙ found .place .given .1 in
     let step = when-looks _ _ _ _ (passes (at .before .before)) (at .before .aim .ensures) _ _ _ access (c .before .look .ensures) in
     record { gives = c .looked .ensures ∙ sym (step .answered); words = sym (step .words) }
 
@@ -114,7 +114,7 @@ returns-3 c =
     let swap = c .before .before .before in
     let found = swap .before .before .before in
     let at = found .before .before in
-    let access = sym (at .access .ensures) ∙ found .place2 .given .1 in
+    let access = sym (at .access-of .ensures) ∙ found .place2 .given .1 in
     let step = when-swaps _ _ _ _ (passes (at .before .before)) (at .before .aim .ensures) _ _ _ _ _ _ access (swap .swap .ensures) in
     record { gives = c .swapped .ensures ∙ sym (step .answered); words = sym (step .words) }
 
@@ -128,7 +128,7 @@ step-spec =
     sub-max
     cast-max
     aim-requires
-    access-requires
+    access-of-requires
     enum-known-place
     cast-look
     look-requires

@@ -1,7 +1,7 @@
 use mathlib.Core.Path.{_∙_, ap}
 use denote.Ref.{now}
 use Rattle.party.specs.declared.Answered.{Answered}
-use Rattle.step.specs.Follow.{lookedOf}
+use Rattle.stages.specs.Follow.{lookedOf}
 use Rattle.header.specs.Header.{versionAt}
 use Rattle.image.specs.Inside.{recorded}
 use borrow.Author.Needs.{needs}

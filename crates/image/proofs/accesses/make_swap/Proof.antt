@@ -7,10 +7,10 @@ use Rattle.party.specs.declared.Record.{Record}
 use Rattle.party.specs.declared.Answer.{Answer}
 use Rattle.party.specs.declared.Answer.the-variants.{Popped}
 use Rattle.party.specs.declared.Answered.{Answered}
-use Rattle.step.specs.declared.AfterSwap.{AfterSwap}
-use Rattle.step.specs.declared.AfterSwap.the-variants.{Onward, Push, Pop}
+use Rattle.stages.specs.declared.AfterSwap.{AfterSwap}
+use Rattle.stages.specs.declared.AfterSwap.the-variants.{Onward, Push, Pop}
 use Rattle.format.specs.Spelling.{recordBytes}
-use Rattle.step.specs.Follow.{wonOf}
+use Rattle.stages.specs.Follow.{wonOf}
 use Rattle.little.specs.Bytes.{bytesOf}
 use Rattle.format.specs.Format.{wordPlace}
 use Rattle.header.specs.Header.{versionAt}

@@ -18,7 +18,7 @@ use party::valid::at_wall;
 use word::Swapped;
 use word::value;
 ghost use mathlib.Core.Path.{_≡_};
-ghost use Rattle.step.specs.Follow.{misled, pushAtWall, popAtFar, judgeOf, recheckOf, lookedOf, wonOf, swappedOf};
+ghost use Rattle.stages.specs.Follow.{misled, pushAtWall, popAtFar, judgeOf, recheckOf, lookedOf, wonOf, swappedOf};
 
 fn is_misled(r: Record, word: u64) -> bool
     ensures { λ t. ⌜ t ≡ misled r word ⌝ }

@@ -1,9 +1,9 @@
 use borrow.Author.Tests.{ne-eqb}
-use Rattle.step.specs.Stages.{accessOf}
+use Rattle.stages.specs.Stages.{accessOf}
 use Rattle.party.proofs.Operations.{push-is, pop-is}
 use borrow.Author.Needs.{needs}
-use Rattle.step.proofs.stages.access.Statement.{statement}
-use Rattle.step.proofs.stages.access.Tie as tie
+use Rattle.stages.proofs.access_of.Statement.{statement}
+use Rattle.stages.proofs.access_of.Tie as tie
 
 cast-k : tie.Need-cast-k
 cast-k c = search needs
@@ -58,8 +58,8 @@ returns-8 c =
     let none = c .match .rest in
     simp (c .before .before .neighbour-of .ensures, ne-eqb _ _ (none .0 .0 .0 .0 .1), ne-eqb _ _ (none .0 .0 .0 .1), ne-eqb _ _ (none .0 .0 .1), ne-eqb _ _ (none .0 .1), ne-eqb _ _ (none .1))
 
-pub access-spec : {M : Type 1} → statement M
-access-spec =
+pub access-of-spec : {M : Type 1} → statement M
+access-of-spec =
     tie.close
     (tie.spec
     cast-k

@@ -1,6 +1,6 @@
 use borrow.Author.Needs.{needs}
-use Rattle.step.proofs.follow.is_misled.Statement.{statement}
-use Rattle.step.proofs.follow.is_misled.Tie as tie
+use Rattle.stages.proofs.follow.is_misled.Statement.{statement}
+use Rattle.stages.proofs.follow.is_misled.Tie as tie
 
 own-null-requires : tie.Need-own-null-requires
 own-null-requires c κs = search needs

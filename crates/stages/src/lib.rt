@@ -1,15 +1,36 @@
-// Document 01's table. It makes no access itself, so it serves every kind of memory.
-use crate::Access;
-use crate::AfterLook;
-use crate::AfterSwap;
+// Document 01's table of stages: the one access that a stage makes, and what follows it. It makes no access itself, so it serves every
+// kind of memory.
+pub mod follow;
+
 use party::Record;
 use party::side::neighbour_of;
 use party::side::own_null;
 use word::value;
 ghost use mathlib.Core.Path.{_≡_};
-ghost use Rattle.step.specs.Stages.{accessOf};
+ghost use Rattle.stages.specs.Stages.{accessOf};
 
-pub fn access(r: Record) -> Access
+// What follows a look: the word is remembered as the first; as the second, and judged; or rechecks the first.
+pub enum AfterLook {
+    Remember,
+    Judge,
+    Recheck,
+}
+
+// What follows a swap that won: stage 5, or the push or the pop is done. One that lost goes to stage 1.
+pub enum AfterSwap {
+    Onward,
+    Push,
+    Pop,
+}
+
+// What a stage does: one access, and what follows it. A swap goes from a word to a value.
+pub enum Access {
+    Look(u32, AfterLook),
+    Swap(u32, u64, u32, AfterSwap),
+}
+
+// The table, as one match.
+pub fn access_of(r: Record) -> Access
     ensures { λ a. ⌜ a ≡ accessOf r ⌝ }
 {
     let stage = r.stage;

@@ -1,8 +1,8 @@
 use borrow.Author.Tests.{eq-eqb, ne-eqb}
-use Rattle.step.specs.Follow.{recheckOf}
+use Rattle.stages.specs.Follow.{recheckOf}
 use borrow.Author.Needs.{needs}
-use Rattle.step.proofs.follow.recheck.Statement.{statement}
-use Rattle.step.proofs.follow.recheck.Tie as tie
+use Rattle.stages.proofs.follow.recheck.Statement.{statement}
+use Rattle.stages.proofs.follow.recheck.Tie as tie
 
 ended-requires : tie.Need-ended-requires
 ended-requires c κs = search needs

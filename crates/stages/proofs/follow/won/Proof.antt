@@ -1,6 +1,6 @@
 use borrow.Author.Needs.{needs}
-use Rattle.step.proofs.follow.won.Statement.{statement}
-use Rattle.step.proofs.follow.won.Tie as tie
+use Rattle.stages.proofs.follow.won.Statement.{statement}
+use Rattle.stages.proofs.follow.won.Tie as tie
 
 enum-told : tie.Need-enum-told
 enum-told c = search needs

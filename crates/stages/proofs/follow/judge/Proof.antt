@@ -1,8 +1,8 @@
 use mathlib.Core.Path.{sym, _∙_}
-use Rattle.step.specs.Follow.{judgeOf}
+use Rattle.stages.specs.Follow.{judgeOf}
 use borrow.Author.Needs.{needs}
-use Rattle.step.proofs.follow.judge.Statement.{statement}
-use Rattle.step.proofs.follow.judge.Tie as tie
+use Rattle.stages.proofs.follow.judge.Statement.{statement}
+use Rattle.stages.proofs.follow.judge.Tie as tie
 
 is-misled-requires : tie.Need-is-misled-requires
 is-misled-requires c κs = search needs

@@ -1,6 +1,6 @@
 use borrow.Author.Needs.{needs}
-use Rattle.step.proofs.follow.swapped.Statement.{statement}
-use Rattle.step.proofs.follow.swapped.Tie as tie
+use Rattle.stages.proofs.follow.swapped.Statement.{statement}
+use Rattle.stages.proofs.follow.swapped.Tie as tie
 
 enum-told : tie.Need-enum-told
 enum-told c = search needs

@@ -1,6 +1,6 @@
 use borrow.Author.Needs.{needs}
-use Rattle.step.proofs.follow.looked.Statement.{statement}
-use Rattle.step.proofs.follow.looked.Tie as tie
+use Rattle.stages.proofs.follow.looked.Statement.{statement}
+use Rattle.stages.proofs.follow.looked.Tie as tie
 
 enum-told : tie.Need-enum-told
 enum-told c = search needs

@@ -7,10 +7,10 @@ use Rattle.logic.specs.Pick.{pick}
 use Rattle.word.specs.Word.{valueOf}
 use Rattle.party.specs.Operation.{isPush, neighbour, ownNull, farNull}
 use Rattle.party.specs.declared.Record.{Record}
-use Rattle.step.specs.declared.AfterLook.the-variants.{Remember, Judge, Recheck}
-use Rattle.step.specs.declared.AfterSwap.the-variants.{Onward, Push, Pop}
-use Rattle.step.specs.declared.Access.{Access}
-use Rattle.step.specs.declared.Access.the-variants.{Look, Swap}
+use Rattle.stages.specs.declared.AfterLook.the-variants.{Remember, Judge, Recheck}
+use Rattle.stages.specs.declared.AfterSwap.the-variants.{Onward, Push, Pop}
+use Rattle.stages.specs.declared.Access.{Access}
+use Rattle.stages.specs.declared.Access.the-variants.{Look, Swap}
 
 abbrev pub near : Record → ℕ
 near r = neighbour (r .operation) (r .k)

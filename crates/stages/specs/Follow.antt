@@ -13,11 +13,11 @@ use Rattle.party.specs.Answer.{goingOn, ends, refused}
 use Rattle.party.specs.declared.Record.{Record}
 use Rattle.party.specs.declared.Answered.{Answered}
 use Rattle.party.specs.declared.Answer.the-variants.{Pushed, Popped, Full, Empty}
-use Rattle.step.specs.Stages.{own, far}
-use Rattle.step.specs.declared.AfterLook.{AfterLook}
-use Rattle.step.specs.declared.AfterLook.the-variants.{Remember, Judge, Recheck}
-use Rattle.step.specs.declared.AfterSwap.{AfterSwap}
-use Rattle.step.specs.declared.AfterSwap.the-variants.{Onward, Push, Pop}
+use Rattle.stages.specs.Stages.{own, far}
+use Rattle.stages.specs.declared.AfterLook.{AfterLook}
+use Rattle.stages.specs.declared.AfterLook.the-variants.{Remember, Judge, Recheck}
+use Rattle.stages.specs.declared.AfterSwap.{AfterSwap}
+use Rattle.stages.specs.declared.AfterSwap.the-variants.{Onward, Push, Pop}
 
 -- the first value is own null or the second is not: the hint was wrong
 abbrev pub misled : Record → (word : ℕ) → Bool
