@@ -1,5 +1,5 @@
 -- A call on its party's record: turned away at the gate, or let through to the record's own checks. It is the call on any table that
--- holds the record, and its promise leaves nothing open.
+-- holds the record, its promise leaves nothing open, and a refused one changes nothing.
 use Prim.Native.Nat.{ℕ}
 use mathlib.Core.Path.{_≡_, refl, sym, _∙_}
 use mathlib.Core.Bool.{Bool, true, false}
@@ -8,12 +8,28 @@ use lib.ListN.{length, set}
 use lib.Seq.{set-getD}
 use lib.Dec.{eqb}
 use borrow.Author.Tests.{eqb-true, eqb-false, eq-eqb, ne-eqb}
-use Rattle.party.specs.Answer.{refused}
+use Rattle.party.specs.Answer.{numberOf, isRefusal, refused, RefusedKeeps}
 use Rattle.party.specs.declared.Record.{Record}
 use Rattle.party.specs.declared.Answered.{Answered}
+use Rattle.party.proofs.Kept.{refused-start-changes-nothing, refused-withdraw-changes-nothing}
+use Rattle.step.specs.Step.{maxOf}
+use Rattle.step.proofs.Kept.{refused-step-changes-nothing}
 use Rattle.call.specs.Call.{Call, partyOf, gate, ownOf, ownLeaves, Left, recordOf, callOf}
+use Rattle.call.specs.Call.Call.{start, step, withdraw}
 use Rattle.call.proofs.Called.{call-through, call-away}
 use Rattle.entry.specs.OnRecord.{onRecordOf, onRecordLeaves}
+
+-- A refused call gives the record back, carries no order and leaves every word.
+abbrev pub ChangesNothing : (strip : List ℕ) → Record → Answered → List ℕ → Type 0
+ChangesNothing strip r given words = RefusedKeeps r given × (isRefusal (numberOf (given .answer)) ≡ true → words ≡ strip)
+
+refused-own-changes-nothing : (strip : List ℕ) (r : Record) (call : Call)
+    → ChangesNothing strip r (ownOf strip r call) (ownLeaves strip r call)
+refused-own-changes-nothing strip r (start party operation order) =
+    (refused-start-changes-nothing (maxOf (length strip)) r operation order, λ h. refl)
+refused-own-changes-nothing strip r (step party hint) = refused-step-changes-nothing strip r hint
+refused-own-changes-nothing strip r (withdraw party) =
+    (refused-withdraw-changes-nothing (maxOf (length strip)) r, λ h. refl)
 
 module _ (strip : List ℕ) (parties : ℕ) (r : Record) (call : Call) where
   pub turned-away : (gate (length strip) parties call ≡ 0 → ⊥)
@@ -25,6 +41,21 @@ module _ (strip : List ℕ) (parties : ℕ) (r : Record) (call : Call) where
       → (onRecordOf strip parties r call ≡ ownOf strip r call) × (onRecordLeaves strip parties r call ≡ ownLeaves strip r call)
   unfolding onRecordOf onRecordLeaves
   let-through clear = simp (eq-eqb _ _ clear) (refl, refl)
+
+  pub refused-on-record-changes-nothing : ChangesNothing strip r (onRecordOf strip parties r call) (onRecordLeaves strip parties r call)
+  refused-on-record-changes-nothing = go (eqb number 0) refl
+    where
+      number : ℕ
+      number = gate (length strip) parties call
+
+      go : (clear : Bool) → eqb number 0 ≡ clear
+          → ChangesNothing strip r (onRecordOf strip parties r call) (onRecordLeaves strip parties r call)
+      go true e =
+          let own = let-through (eqb-true number 0 e) in
+          rw (own .0, own .1) (refused-own-changes-nothing strip r call)
+      go false e =
+          let away = turned-away (eqb-false number 0 e) in
+          rw (away .0, away .1) (λ h. (refl, refl), λ h. refl)
 
   -- Two results that keep the promise are equal, and so are the words they leave.
   pub two-on-record-that-keep-it-are-equal : {one two : Answered} {left other : List ℕ}
