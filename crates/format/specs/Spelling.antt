@@ -17,7 +17,7 @@ wordsFrom image at (suc count) = numberAt 8 image at ∷ wordsFrom image (at + 8
 abbrev pub stripOf : List ℕ → List ℕ
 stripOf image = wordsFrom image wordsBase (maxAt image + 2)
 
--- a record: 0 operation, 1 stage, 2..3 k, 4..7 v, 8..15 first word, 16..23 second word
+-- a record, alike in every version that is known: 0 operation, 1 stage, 2..3 k, 4..7 v, 8..15 first word, 16..23 second word
 unfoldable pub recordAt : (version : ℕ) (image : List ℕ) (at : ℕ) → Record
 recordAt version image at =
     record {
