@@ -1,38 +1,25 @@
 // Each command: its numbers are handed to the proved call, and what that gives is written. False where they are not what it takes.
-use crate::say::answered;
-use crate::say::first;
-use crate::say::more;
-use crate::say::words;
-use party::Record;
-use strip::Found;
+use console::number::compared;
+use console::record::fits_record;
+use console::record::record_of;
+use console::record::say_record;
+use console::say::first;
+use console::say::more;
+use console::say::words;
+use find::Found;
+use party::Answered;
+use party::carried;
+use party::number;
 use strip::Laid;
 use strip::Measured;
-ghost use Prim.Native.Nat.{_≤_};
-ghost use lib.ListN.{length};
 
-// A number that is compared and not kept: what lies beyond 32 bits lies beyond every range, as the largest does.
-pub fn compared(n: u64) -> u32 {
-    if n < 4294967295 { n as u32 } else { 4294967295 }
-}
-
-pub fn fits_record(given: &[u64]) -> bool
-    requires { ⌜ 7 ≤ length (now given) ⌝ }
-{
-    (given[1] < 256) & (given[2] < 256) & (given[3] < 65536) & (given[4] < 4294967296)
-}
-
-// The record that stands after a command's first number. Its fields were compared by fits_record.
-pub fn record_of(given: &[u64]) -> Record
-    requires { ⌜ 7 ≤ length (now given) ⌝ }
-{
-    Record {
-        operation: (given[1] % 256) as u8,
-        stage: (given[2] % 256) as u8,
-        k: (given[3] % 65536) as u16,
-        v: (given[4] % 4294967296) as u32,
-        first: given[5],
-        second: given[6],
-    }
+// The number, the carried order and the record.
+fn answered(got: Answered) {
+    let answer = got.answer;
+    let r = got.rec;
+    first(number(answer) as u64);
+    more(carried(answer) as u64);
+    say_record(r);
 }
 
 pub fn lay(given: &mut [u64]) -> bool {
@@ -62,12 +49,13 @@ fn found(got: Found) -> bool {
     true
 }
 
-pub fn find_right(given: &[u64]) -> bool {
-    found(strip::find_right(given))
-}
-
-pub fn find_left(given: &[u64]) -> bool {
-    found(strip::find_left(given))
+// From the right, or from the left.
+pub fn find(side: usize, given: &[u64]) -> bool {
+    match side {
+        0 => found(find::find_right(given)),
+        1 => found(find::find_left(given)),
+        _ => false,
+    }
 }
 
 fn measured(number: u32, left: u32, orders: u32, right: u32) -> bool {
