@@ -1,6 +1,7 @@
 // The checks before the record's own: the header, what it says, and the named record.
 use crate::Header;
 use crate::Named;
+use crate::WORDS;
 use crate::record::is_spare;
 use header::counts_fit;
 use header::is_marked;
@@ -21,7 +22,7 @@ fn is_known(version: u16) -> bool
 pub fn records_base(version: u16, max: u32) -> usize
     ensures { λ at. ⌜ at ≡ recordsBase version max ⌝ }
 {
-    8 + 8 * (max as usize + 2)
+    WORDS + 8 * (max as usize + 2)
 }
 
 pub fn sizes_fit(version: u16, bytes: usize, max: u32, parties: u32) -> bool
@@ -41,6 +42,7 @@ fn bad_header(number: u32) -> Header
     }
 }
 
+// The header: too short, then mark and version, then what it says.
 pub fn read_header(image: &[u8]) -> Header
     ensures { λ h. ⌜ h ≡ headerOf (now (image .entry)) ⌝ }
 {
