@@ -9,10 +9,10 @@ use lib.Seq.{set-getD}
 use lib.Dec.{leb}
 use borrow.Author.Tests.{ne-eqb, leb-false, not-false}
 use Rattle.logic.proofs.Bools.{both, passed, whichever}
-use Rattle.party.specs.Record.{idle, begun}
+use Rattle.record.specs.Record.{idle, begun}
 use Rattle.party.specs.Answer.{isRefusal, goingOn, refused, unless}
 use Rattle.party.specs.Calls.{startRefusal, startOf, withdrawRefusal, withdrawOf}
-use Rattle.party.specs.declared.Record.{Record}
+use Rattle.record.specs.declared.Record.{Record}
 use Rattle.party.specs.declared.Answer.{Answer}
 use Rattle.party.specs.declared.Answered.{Answered}
 use Rattle.party.specs.declared.Answer.the-variants.{GoesOn, Refused}

@@ -11,10 +11,10 @@ use native.Mathlib.Omega.{arith}
 use Rattle.logic.specs.Every.{Every}
 use Rattle.logic.proofs.Bools.{whichever}
 use Rattle.logic.proofs.Lists.{every-set}
-use Rattle.party.specs.Record.{idle}
-use Rattle.party.specs.Valid.{validOf}
+use Rattle.record.specs.Record.{idle}
+use Rattle.record.specs.Valid.{validOf}
 use Rattle.party.specs.Answer.{isRefusal, numberOf, carriedOf}
-use Rattle.party.specs.declared.Record.{Record}
+use Rattle.record.specs.declared.Record.{Record}
 use Rattle.party.specs.declared.Answer.{Answer}
 use Rattle.party.proofs.Kept.{idle-is-valid, begun-is-valid}
 use Rattle.step.specs.Step.{maxOf}

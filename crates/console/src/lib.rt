@@ -3,5 +3,5 @@
 pub mod hex;
 pub mod line;
 pub mod number;
-pub mod record;
+pub mod records;
 pub mod say;

@@ -9,7 +9,7 @@ use lib.Seq.{set-getD}
 use lib.Dec.{eqb}
 use borrow.Author.Tests.{eqb-true, eqb-false, eq-eqb, ne-eqb}
 use Rattle.party.specs.Answer.{numberOf, isRefusal, refused, RefusedKeeps}
-use Rattle.party.specs.declared.Record.{Record}
+use Rattle.record.specs.declared.Record.{Record}
 use Rattle.party.specs.declared.Answered.{Answered}
 use Rattle.party.proofs.Kept.{refused-start-changes-nothing, refused-withdraw-changes-nothing}
 use Rattle.step.specs.Step.{maxOf}

@@ -6,7 +6,7 @@ use lib.ListN.{length}
 use lib.Dec.{eqb}
 use Rattle.logic.specs.Pick.{pick}
 use Rattle.party.specs.Answer.{unless}
-use Rattle.party.specs.declared.Record.{Record}
+use Rattle.record.specs.declared.Record.{Record}
 use Rattle.party.specs.declared.Answered.{Answered}
 use Rattle.call.specs.Call.{Call, gate, ownOf, ownLeaves}
 

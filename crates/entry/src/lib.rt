@@ -2,8 +2,8 @@
 use call::gated;
 use little::number_4;
 use party::Answered;
-use party::Record;
 use party::make::refused_with;
+use record::Record;
 ghost use mathlib.Core.Path.{_≡_};
 ghost use mathlib.Core.Bool.{true};
 ghost use Prim.Native.Nat.{_+_, _≤_};

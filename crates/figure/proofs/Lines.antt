@@ -11,18 +11,18 @@ use Rattle.logic.specs.Pick.{pick}
 use Rattle.word.specs.Word.{valueOf, counterOf, raisedTo, LN, RN}
 use Rattle.word.specs.Swap.{swapOf, wordsAfter}
 use Rattle.word.proofs.Laws.{SwapGoes, swap-goes}
-use Rattle.party.specs.Operation.{isRight}
-use Rattle.party.specs.Record.{again, atStage, withOperation}
-use Rattle.party.specs.Valid.{isIdle}
+use Rattle.record.specs.Operation.{isRight}
+use Rattle.record.specs.Record.{again, atStage, withOperation}
+use Rattle.record.specs.Valid.{isIdle}
 use Rattle.party.specs.Answer.{isRefusal, numberOf, goingOn}
-use Rattle.party.specs.declared.Record.{Record}
+use Rattle.record.specs.declared.Record.{Record}
 use Rattle.party.specs.declared.Answered.{Answered}
 use Rattle.stages.specs.Stages.{accessOf}
 use Rattle.stages.specs.Follow.{judgeOf, recheckOf, wonOf, swappedOf}
 use Rattle.step.specs.Step.{maxOf, stepRefusal, stepOf, stepLeaves}
 use Rattle.stages.specs.declared.AfterSwap.{AfterSwap}
 use Rattle.stages.specs.declared.AfterSwap.the-variants.{Onward, Push, Pop}
-use Rattle.party.proofs.Stages.{ValidAt, valid-at}
+use Rattle.record.proofs.Stages.{ValidAt, valid-at}
 use Rattle.party.proofs.Refusals.{Checked, refusal-is-not-0}
 use Rattle.step.proofs.Cleared.{steppable}
 use Rattle.step.proofs.Accesses.{when-refused}

@@ -6,8 +6,8 @@ use lib.ListN.{length}
 use lib.Dec.{eqb}
 use Rattle.logic.specs.Pick.{pick}
 use Rattle.word.specs.Word.{valueOf, counterOf}
-use Rattle.party.specs.Operation.{isPush}
-use Rattle.party.specs.declared.Record.{Record}
+use Rattle.record.specs.Operation.{isPush}
+use Rattle.record.specs.declared.Record.{Record}
 use Rattle.party.specs.declared.Answer.the-variants.{GoesOn, Pushed, Popped, Full, Empty}
 use Rattle.party.specs.declared.Answered.{Answered}
 use Rattle.step.specs.Step.{maxOf, stepOf, stepLeaves}

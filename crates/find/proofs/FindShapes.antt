@@ -10,7 +10,7 @@ use native.Mathlib.Omega.{arith}
 use Rattle.logic.specs.Pick.{pick}
 use Rattle.logic.proofs.Bools.{both}
 use Rattle.word.specs.Word.{LN, RN, valueAt}
-use Rattle.party.specs.Operation.{isRight, ownNull, neighbour, inRange}
+use Rattle.record.specs.Operation.{isRight, ownNull, neighbour, inRange}
 use Rattle.step.specs.Step.{stripFits, maxOf}
 use Rattle.step.proofs.Cleared.{strip-within}
 use Rattle.plain.specs.Plain.{Plain}

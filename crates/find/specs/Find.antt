@@ -6,7 +6,7 @@ use lib.ListN.{length}
 use lib.Dec.{eqb}
 use Rattle.logic.specs.Pick.{pick}
 use Rattle.word.specs.Word.{valueAt}
-use Rattle.party.specs.Operation.{isRight, ownNull, neighbour}
+use Rattle.record.specs.Operation.{isRight, ownNull, neighbour}
 use Rattle.step.specs.Step.{stripFits, maxOf}
 use Rattle.find.specs.declared.Found.{Found}
 use Rattle.find.specs.declared.Found.the-variants.{Place, NotFound}

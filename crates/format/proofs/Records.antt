@@ -7,7 +7,7 @@ use lib.Seq.{sets, length-sets, set-getD, getD-set-same, getD-set-other}
 use native.Mathlib.Nat.{add-assoc}
 use native.Mathlib.Numerals.{add-one}
 use native.Mathlib.Omega.{arith}
-use Rattle.party.specs.declared.Record.{Record}
+use Rattle.record.specs.declared.Record.{Record}
 use Rattle.little.specs.Bytes.{numberAt, bytesOf}
 use Rattle.format.specs.Spelling.{RecordFits, recordAt, recordBytes, recordsFrom, withRecords}
 use Rattle.little.proofs.Runs.{Agree, below-a-run, run-append}

@@ -7,8 +7,8 @@ use lib.Seq.{sets}
 use native.Mathlib.Omega.{arith}
 use Rattle.logic.specs.Every.{Every}
 use Rattle.word.specs.Word.{IsWord}
-use Rattle.party.specs.Record.{idle}
-use Rattle.party.specs.declared.Record.{Record}
+use Rattle.record.specs.Record.{idle}
+use Rattle.record.specs.declared.Record.{Record}
 use Rattle.little.specs.Bytes.{numberAt, bytesOf}
 use Rattle.header.specs.Header.{versionAt, partiesAt, maxAt}
 use Rattle.format.specs.Format.{wordsBase, wordPlace, lengthOf, recordsIn, partyPlace}

@@ -2,7 +2,7 @@
 use crate::Header;
 use crate::Named;
 use crate::WORDS;
-use crate::record::is_spare;
+use crate::fields::is_spare;
 use header::counts_fit;
 use header::is_marked;
 use header::max;

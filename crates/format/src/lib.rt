@@ -1,8 +1,8 @@
 // The format of an image: its header, where each thing stands, a record in its bytes, a fresh one. All is public for the calls on
 // images, which have checked what these ask.
+pub mod fields;
 pub mod fresh;
 pub mod gate;
-pub mod record;
 
 // Where the words begin.
 pub const WORDS: usize = 8;

@@ -12,7 +12,7 @@ use borrow.Author.Tests.{eqb-true, ltb-true, ltb-false}
 use native.Mathlib.Omega.{arith}
 use Rattle.logic.specs.Pick.{pick}
 use Rattle.logic.specs.Every.{Every}
-use Rattle.party.specs.Record.{idle}
+use Rattle.record.specs.Record.{idle}
 use Rattle.call.specs.Call.{Call, partyOf}
 use Rattle.history.specs.Run.{State, lineOf, leaves, numberIn}
 use Rattle.history.specs.Finished.{Asked, Finished, nothingYet, isResult, finish, finishedAt}

@@ -8,7 +8,7 @@ use lib.Dec.{ltb}
 use borrow.Author.Tests.{ltb-true, ltb-false}
 use native.Mathlib.Omega.{arith}
 use Rattle.logic.specs.Pick.{pick}
-use Rattle.party.specs.Operation.{isRight}
+use Rattle.record.specs.Operation.{isRight}
 use Rattle.plain.specs.Plain.{Plain}
 use Rattle.plain.specs.Play.{room}
 use Rattle.plain.proofs.Laws.{full-is-no-room, empty-is-no-order}

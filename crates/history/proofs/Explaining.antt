@@ -10,7 +10,7 @@ use native.Mathlib.Omega.{arith}
 use Rattle.logic.specs.Pick.{pick}
 use Rattle.logic.specs.Every.{Every}
 use Rattle.logic.proofs.Bools.{both}
-use Rattle.party.specs.Record.{idle}
+use Rattle.record.specs.Record.{idle}
 use Rattle.step.specs.Step.{stripFits}
 use Rattle.call.specs.Call.{Call, Fitting}
 use Rattle.plain.specs.Plain.{Plain}

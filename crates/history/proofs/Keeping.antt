@@ -7,7 +7,7 @@ use lib.Dec.{eqb}
 use borrow.Author.Tests.{lt-leb, eqb-true}
 use Rattle.logic.specs.Pick.{pick}
 use Rattle.logic.proofs.Bools.{both}
-use Rattle.party.specs.Record.{idle}
+use Rattle.record.specs.Record.{idle}
 use Rattle.step.specs.Step.{stripFits}
 use Rattle.call.specs.Call.{Call, Fitting, partyOf, callOf}
 use Rattle.call.proofs.Calls.{table-stays-as-long}

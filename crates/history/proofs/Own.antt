@@ -7,9 +7,9 @@ use lib.ListN.{length, getD, set}
 use lib.Seq.{getD-set-same}
 use borrow.Author.Tests.{eqb-false}
 use native.Mathlib.Omega.{arith}
-use Rattle.party.specs.Record.{idle, begun}
+use Rattle.record.specs.Record.{idle, begun}
 use Rattle.party.specs.Answer.{isRefusal, numberOf}
-use Rattle.party.specs.declared.Record.{Record}
+use Rattle.record.specs.declared.Record.{Record}
 use Rattle.party.specs.declared.Answer.{Answer}
 use Rattle.call.specs.Call.{Call, partyOf, recordOf}
 use Rattle.step.proofs.Stepped.{Stepped, stepped}

@@ -11,9 +11,9 @@ use borrow.Author.Tests.{eqb-true, eqb-false, eq-eqb, ne-eqb}
 use native.Mathlib.Omega.{arith}
 use Rattle.logic.specs.Pick.{pick}
 use Rattle.logic.proofs.Bools.{both, whichever}
-use Rattle.party.specs.Record.{idle, begun}
+use Rattle.record.specs.Record.{idle, begun}
 use Rattle.party.specs.Answer.{isRefusal}
-use Rattle.party.specs.declared.Record.{Record}
+use Rattle.record.specs.declared.Record.{Record}
 use Rattle.party.proofs.Refusals.{refusal-is-not-0}
 use Rattle.call.specs.Call.{Call, partyOf}
 use Rattle.call.proofs.Calls.{other-records-stand}

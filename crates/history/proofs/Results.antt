@@ -8,7 +8,7 @@ use lib.Dec.{leb}
 use borrow.Author.Tests.{leb-true}
 use native.Mathlib.Omega.{arith}
 use Rattle.logic.proofs.Bools.{both}
-use Rattle.party.specs.Record.{idle}
+use Rattle.record.specs.Record.{idle}
 use Rattle.party.specs.Answer.{isRefusal}
 use Rattle.party.proofs.Refusals.{refusal-is-small}
 use Rattle.call.specs.Call.{Call, partyOf, recordOf}

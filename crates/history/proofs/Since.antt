@@ -7,9 +7,9 @@ use lib.ListN.{getD}
 use lib.Dec.{eqb}
 use borrow.Author.Tests.{eqb-true, eqb-false}
 use native.Mathlib.Omega.{arith}
-use Rattle.party.specs.Record.{idle}
+use Rattle.record.specs.Record.{idle}
 use Rattle.party.specs.Answer.{isRefusal}
-use Rattle.party.specs.declared.Record.{Record}
+use Rattle.record.specs.declared.Record.{Record}
 use Rattle.call.specs.Call.{Call, partyOf}
 use Rattle.step.proofs.Stepped.{Stepped}
 use Rattle.history.specs.Run.{State, leaves, numberIn}

@@ -8,7 +8,7 @@ use lib.ListN.{getD}
 use lib.Dec.{eqb}
 use native.Mathlib.Omega.{arith}
 use Rattle.logic.specs.Pick.{pick}
-use Rattle.party.specs.Record.{idle}
+use Rattle.record.specs.Record.{idle}
 use Rattle.call.specs.Call.{Call, partyOf, callOf, recordOf}
 use Rattle.plain.specs.Plain.{Plain}
 use Rattle.invariant.specs.Remembered.{RecordYields}

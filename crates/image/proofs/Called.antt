@@ -11,9 +11,9 @@ use native.Mathlib.Omega.{arith}
 use Rattle.logic.specs.Pick.{pick}
 use Rattle.logic.specs.Every.{Every}
 use Rattle.word.specs.Word.{IsWord}
-use Rattle.party.specs.Record.{idle}
+use Rattle.record.specs.Record.{idle}
 use Rattle.party.specs.Answer.{refused}
-use Rattle.party.specs.declared.Record.{Record}
+use Rattle.record.specs.declared.Record.{Record}
 use Rattle.party.specs.declared.Answered.{Answered}
 use Rattle.party.proofs.Cleared.{max-within}
 use Rattle.step.specs.Step.{stripFits, maxOf}

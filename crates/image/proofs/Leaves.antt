@@ -16,10 +16,10 @@ use Rattle.word.specs.Swap.{swapOf, wordsAfter}
 use Rattle.word.specs.declared.Swapped.{Swapped}
 use Rattle.word.specs.declared.Swapped.the-variants.{Won, Lost, Stuck}
 use Rattle.word.proofs.Laws.{SwapGoes, swap-goes, raised-is-word}
-use Rattle.party.specs.Record.{idle, begun}
+use Rattle.record.specs.Record.{idle, begun}
 use Rattle.party.specs.Answer.{goingOn, refused}
 use Rattle.party.specs.Calls.{startRefusal, startOf, withdrawRefusal, withdrawOf}
-use Rattle.party.specs.declared.Record.{Record}
+use Rattle.record.specs.declared.Record.{Record}
 use Rattle.party.specs.declared.Answered.{Answered}
 use Rattle.party.proofs.Cleared.{startable}
 use Rattle.stages.specs.Stages.{accessOf}
@@ -37,7 +37,7 @@ use Rattle.header.specs.Header.{versionAt}
 use Rattle.format.proofs.Records.{read-record-fits}
 use Rattle.image.proofs.Widths.{idle-fits, begun-fits, aimed-fits, looked-fits, swapped-fits}
 use Rattle.format.proofs.Spelled.{strip-length, table-length, word-is-read, record-is-read}
-use Rattle.party.specs.Operation.{isPush, isRight}
+use Rattle.record.specs.Operation.{isPush, isRight}
 use Rattle.stages.specs.Stages.{own}
 
 pub words-fit : (image : List ℕ) → AreBytes image → Every IsWord 0 (stripOf image)

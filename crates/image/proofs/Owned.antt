@@ -12,10 +12,10 @@ use Rattle.word.specs.Swap.{swapOf, wordsAfter}
 use Rattle.word.specs.declared.Swapped.{Swapped}
 use Rattle.word.specs.declared.Swapped.the-variants.{Won, Lost, Stuck}
 use Rattle.word.proofs.Laws.{SwapGoes, swap-goes}
-use Rattle.party.specs.Record.{idle, begun}
+use Rattle.record.specs.Record.{idle, begun}
 use Rattle.party.specs.Answer.{goingOn, refused}
 use Rattle.party.specs.Calls.{startOwn, startRefusal, startOf, withdrawOwn, withdrawRefusal, withdrawOf}
-use Rattle.party.specs.declared.Record.{Record}
+use Rattle.record.specs.declared.Record.{Record}
 use Rattle.party.specs.declared.Answer.the-variants.{GoesOn}
 use Rattle.party.proofs.Cleared.{max-within}
 use Rattle.stages.specs.Stages.{near, accessOf}

@@ -7,9 +7,9 @@ use lib.ListN.{length}
 use lib.Seq.{sets}
 use lib.Dec.{ltb}
 use native.Mathlib.Omega.{arith}
-use Rattle.party.specs.Record.{idle, begun}
+use Rattle.record.specs.Record.{idle, begun}
 use Rattle.party.specs.Calls.{startOwn, withdrawOwn}
-use Rattle.party.specs.declared.Record.{Record}
+use Rattle.record.specs.declared.Record.{Record}
 use Rattle.party.specs.declared.Answer.{Answer}
 use Rattle.party.specs.declared.Answer.the-variants.{GoesOn, Refused}
 use Rattle.stages.specs.Stages.{accessOf}

@@ -10,8 +10,8 @@ use Rattle.logic.proofs.Bools.{whichever}
 use Rattle.word.specs.Word.{IsWord}
 use Rattle.word.specs.declared.Swapped.{Swapped}
 use Rattle.word.specs.declared.Swapped.the-variants.{Won, Lost, Stuck}
-use Rattle.party.specs.Record.{idle, begun, withPlace}
-use Rattle.party.specs.declared.Record.{Record}
+use Rattle.record.specs.Record.{idle, begun, withPlace}
+use Rattle.record.specs.declared.Record.{Record}
 use Rattle.party.specs.declared.Answered.{Answered}
 use Rattle.stages.specs.Follow.{misled, pushAtWall, popAtFar, judgeOf, recheckOf, lookedOf, swappedOf}
 use Rattle.step.specs.Step.{aimed}

@@ -7,7 +7,7 @@ use Rattle.word.specs.Word.{raisedTo}
 use Rattle.word.specs.Swap.{swapOf}
 use Rattle.word.specs.declared.Swapped.{Swapped}
 use Rattle.word.specs.declared.Swapped.the-variants.{Won, Lost, Stuck}
-use Rattle.party.specs.declared.Record.{Record}
+use Rattle.record.specs.declared.Record.{Record}
 use Rattle.party.specs.declared.Answer.{Answer}
 use Rattle.party.specs.declared.Answered.{Answered}
 use Rattle.stages.specs.Follow.{lookedOf, swappedOf}

@@ -1,13 +1,13 @@
 // An access made in the bytes of an image, in the strip that begins at a base, and what follows it written in the record at a place.
 // Private to the crate, whose step has checked the header: these ask that the bytes lie inside.
-use format::record::write_record;
+use format::fields::write_record;
 use little::number_8;
 use little::put_8;
 use party::Answer;
-use party::Record;
-use party::make::at_stage;
-use party::make::begun_again;
-use party::make::idle_record;
+use record::Record;
+use record::make::at_stage;
+use record::make::begun_again;
+use record::make::idle_record;
 use stages::AfterLook;
 use stages::AfterSwap;
 use stages::follow::looked;

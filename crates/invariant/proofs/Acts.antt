@@ -7,7 +7,7 @@ use native.Mathlib.Omega.{arith}
 use Rattle.logic.specs.Every.{Every}
 use Rattle.logic.proofs.Lists.{map-set, every-one, every-append, every-take, every-drop}
 use Rattle.word.specs.Word.{valueOf, LN, RN}
-use Rattle.party.specs.declared.Record.{Record}
+use Rattle.record.specs.declared.Record.{Record}
 use Rattle.stages.specs.Stages.{near, own}
 use Rattle.plain.specs.Plain.{Plain}
 use Rattle.strip.specs.Shape.{valuesOf, IsOrder, StandsFor}

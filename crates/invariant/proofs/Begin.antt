@@ -5,8 +5,8 @@ use mathlib.Core.List.{List}
 use lib.ListN.{replicate}
 use native.Mathlib.Omega.{arith}
 use Rattle.logic.proofs.Lists.{all-the-same}
-use Rattle.party.specs.Record.{idle}
-use Rattle.party.specs.declared.Record.{Record}
+use Rattle.record.specs.Record.{idle}
+use Rattle.record.specs.declared.Record.{Record}
 use Rattle.invariant.specs.Invariant.{Sane}
 use Rattle.invariant.proofs.Moves.{idle-sound}
 

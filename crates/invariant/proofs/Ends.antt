@@ -8,9 +8,9 @@ use borrow.Author.Tests.{eqb-true, eqb-false, eq-eqb, ne-eqb}
 use native.Mathlib.Omega.{arith}
 use Rattle.logic.specs.Pick.{pick}
 use Rattle.word.specs.Word.{valueOf, valueAt}
-use Rattle.party.specs.Operation.{isRight, wall}
-use Rattle.party.specs.Valid.{placeFits, atWall}
-use Rattle.party.specs.declared.Record.{Record}
+use Rattle.record.specs.Operation.{isRight, wall}
+use Rattle.record.specs.Valid.{placeFits, atWall}
+use Rattle.record.specs.declared.Record.{Record}
 use Rattle.stages.specs.Stages.{near, own, far}
 use Rattle.step.specs.Step.{stripFits, maxOf}
 use Rattle.step.proofs.Cleared.{strip-within}

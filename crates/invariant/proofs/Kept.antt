@@ -5,8 +5,8 @@ use mathlib.Core.Bool.{true}
 use mathlib.Core.List.{List}
 use lib.ListN.{length}
 use native.Mathlib.Omega.{arith}
-use Rattle.party.specs.Record.{begun}
-use Rattle.party.specs.declared.Record.{Record}
+use Rattle.record.specs.Record.{begun}
+use Rattle.record.specs.declared.Record.{Record}
 use Rattle.party.specs.declared.Answer.{Answer}
 use Rattle.party.proofs.Kept.{begun-is-valid}
 use Rattle.step.specs.Step.{stripFits, maxOf}

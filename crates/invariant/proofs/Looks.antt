@@ -9,11 +9,11 @@ use borrow.Author.Tests.{eqb-true}
 use native.Mathlib.Omega.{arith}
 use Rattle.logic.proofs.Bools.{both}
 use Rattle.word.specs.Word.{valueOf, valueAt}
-use Rattle.party.specs.Operation.{isPush, wall}
-use Rattle.party.specs.Record.{idle}
-use Rattle.party.specs.Valid.{placeFits, atWall}
+use Rattle.record.specs.Operation.{isPush, wall}
+use Rattle.record.specs.Record.{idle}
+use Rattle.record.specs.Valid.{placeFits, atWall}
 use Rattle.party.specs.Answer.{goingOn}
-use Rattle.party.specs.declared.Record.{Record}
+use Rattle.record.specs.declared.Record.{Record}
 use Rattle.party.specs.declared.Answered.{Answered}
 use Rattle.party.specs.declared.Answer.the-variants.{GoesOn}
 use Rattle.stages.specs.Stages.{near, own, far}

@@ -8,10 +8,10 @@ use borrow.Author.Tests.{eq-eqb}
 use native.Mathlib.Omega.{arith}
 use Rattle.word.specs.Word.{valueOf}
 use Rattle.swaps.specs.Remembered.{Remembered}
-use Rattle.party.specs.Operation.{isPush}
-use Rattle.party.specs.Record.{idle, atStage, withSecond}
-use Rattle.party.specs.Valid.{validOf}
-use Rattle.party.specs.declared.Record.{Record}
+use Rattle.record.specs.Operation.{isPush}
+use Rattle.record.specs.Record.{idle, atStage, withSecond}
+use Rattle.record.specs.Valid.{validOf}
+use Rattle.record.specs.declared.Record.{Record}
 use Rattle.party.proofs.Kept.{idle-is-valid}
 use Rattle.stages.specs.Stages.{own, far, atPlace, atNear}
 use Rattle.stages.specs.Follow.{popAtFar}

@@ -10,9 +10,9 @@ use Rattle.swaps.specs.Remembered.{Known}
 use Rattle.swaps.proofs.Stale.{Wins, remembered-kept, fresh-elsewhere}
 use Rattle.swaps.proofs.Facts.{given-kept, spared}
 use Rattle.swaps.proofs.Claims.{apart-kept}
-use Rattle.party.specs.Operation.{isPush}
-use Rattle.party.specs.Valid.{validOf}
-use Rattle.party.specs.declared.Record.{Record}
+use Rattle.record.specs.Operation.{isPush}
+use Rattle.record.specs.Valid.{validOf}
+use Rattle.record.specs.declared.Record.{Record}
 use Rattle.stages.specs.Stages.{near, own}
 use Rattle.step.specs.Step.{maxOf}
 use Rattle.invariant.specs.Invariant.{FreshFirst, FreshSecond, Sound, claimOf, Clear}

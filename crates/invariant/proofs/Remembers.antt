@@ -9,10 +9,10 @@ use lib.Seq.{getD-set-same}
 use native.Mathlib.Omega.{arith}
 use Rattle.logic.proofs.Lists.{at-set}
 use Rattle.word.specs.Word.{raisedTo}
-use Rattle.party.specs.Operation.{wall}
-use Rattle.party.specs.Record.{idle, begun}
+use Rattle.record.specs.Operation.{wall}
+use Rattle.record.specs.Record.{idle, begun}
 use Rattle.party.specs.Answer.{numberOf}
-use Rattle.party.specs.declared.Record.{Record}
+use Rattle.record.specs.declared.Record.{Record}
 use Rattle.party.specs.declared.Answer.{Answer}
 use Rattle.party.proofs.Refusals.{refusal-is-not-0}
 use Rattle.stages.specs.Stages.{near}

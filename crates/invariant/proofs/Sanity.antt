@@ -7,8 +7,8 @@ use Rattle.logic.specs.Every.{Every}
 use Rattle.logic.proofs.Lists.{every-set, pairs-set}
 use Rattle.word.specs.Word.{raisedTo}
 use Rattle.swaps.proofs.Stale.{Wins}
-use Rattle.party.specs.Record.{idle}
-use Rattle.party.specs.declared.Record.{Record}
+use Rattle.record.specs.Record.{idle}
+use Rattle.record.specs.declared.Record.{Record}
 use Rattle.invariant.specs.Invariant.{Sound, Clear, Sane}
 use Rattle.invariant.proofs.Others.{Spares, stays-sound, stay-clear}
 

@@ -11,10 +11,10 @@ use Rattle.logic.specs.Pick.{pick}
 use Rattle.logic.proofs.Bools.{both}
 use Rattle.word.proofs.Laws.{Took}
 use Rattle.swaps.proofs.Stale.{Wins}
-use Rattle.party.specs.Operation.{isRight, isPush, orderFits}
-use Rattle.party.specs.Valid.{validOf, placeFits}
-use Rattle.party.specs.declared.Record.{Record}
-use Rattle.party.proofs.Stages.{ValidAt, valid-at, busy-fits}
+use Rattle.record.specs.Operation.{isRight, isPush, orderFits}
+use Rattle.record.specs.Valid.{validOf, placeFits}
+use Rattle.record.specs.declared.Record.{Record}
+use Rattle.record.proofs.Stages.{ValidAt, valid-at, busy-fits}
 use Rattle.stages.specs.Stages.{near, own, far, atPlace, atNear}
 use Rattle.step.specs.Step.{stripFits, maxOf}
 use Rattle.step.proofs.Cleared.{strip-within}

@@ -13,14 +13,14 @@ use Rattle.word.specs.Word.{valueOf, raisedTo, valueAt}
 use Rattle.word.proofs.Laws.{raised-value}
 use Rattle.swaps.proofs.Stale.{Wins}
 use Rattle.swaps.proofs.Facts.{values-kept}
-use Rattle.party.specs.Operation.{isPush}
-use Rattle.party.specs.Valid.{placeFits, atWall}
+use Rattle.record.specs.Operation.{isPush}
+use Rattle.record.specs.Valid.{placeFits, atWall}
 use Rattle.party.specs.Answer.{numberOf, goingOn, ends}
-use Rattle.party.specs.declared.Record.{Record}
+use Rattle.record.specs.declared.Record.{Record}
 use Rattle.party.specs.declared.Answer.{Answer}
 use Rattle.party.specs.declared.Answered.{Answered}
 use Rattle.party.specs.declared.Answer.the-variants.{GoesOn, Pushed, Popped, Full, Empty}
-use Rattle.party.proofs.Stages.{stage-3-fits, stage-5-fits}
+use Rattle.record.proofs.Stages.{stage-3-fits, stage-5-fits}
 use Rattle.stages.specs.Stages.{near, own, far, atPlace, atNear}
 use Rattle.step.specs.Step.{stripFits, maxOf, stepOf, stepLeaves}
 use Rattle.step.proofs.Accesses.{Gone}

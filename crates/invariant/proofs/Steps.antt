@@ -5,9 +5,9 @@ use mathlib.Core.Bool.{true}
 use mathlib.Core.List.{List}
 use lib.ListN.{length, getD, set}
 use native.Mathlib.Omega.{arith}
-use Rattle.party.specs.Record.{idle, again}
-use Rattle.party.specs.Valid.{validOf}
-use Rattle.party.specs.declared.Record.{Record}
+use Rattle.record.specs.Record.{idle, again}
+use Rattle.record.specs.Valid.{validOf}
+use Rattle.record.specs.declared.Record.{Record}
 use Rattle.party.specs.declared.Answered.{Answered}
 use Rattle.step.specs.Step.{stripFits, maxOf, stepOf, stepLeaves}
 use Rattle.step.proofs.Kept.{step-keeps-valid}

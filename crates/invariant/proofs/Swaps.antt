@@ -12,10 +12,10 @@ use Rattle.swaps.specs.Remembered.{Known}
 use Rattle.swaps.specs.Claims.{Apart}
 use Rattle.swaps.proofs.Stale.{Wins}
 use Rattle.swaps.proofs.Claims.{apart-made, apart-sym}
-use Rattle.party.specs.Operation.{isPush}
-use Rattle.party.specs.Record.{idle, atStage}
-use Rattle.party.specs.Valid.{validOf}
-use Rattle.party.specs.declared.Record.{Record}
+use Rattle.record.specs.Operation.{isPush}
+use Rattle.record.specs.Record.{idle, atStage}
+use Rattle.record.specs.Valid.{validOf}
+use Rattle.record.specs.declared.Record.{Record}
 use Rattle.stages.specs.Stages.{near, own, atPlace, atNear}
 use Rattle.step.specs.Step.{stripFits, maxOf}
 use Rattle.invariant.specs.Invariant.{FreshFirst, FreshSecond, Sound, claimOf, Sane}

@@ -8,8 +8,8 @@ use Rattle.logic.specs.Every.{Every}
 use Rattle.logic.proofs.Lists.{every-set}
 use Rattle.word.specs.Word.{IsWord, valueOf, counterOf, raisedTo}
 use Rattle.word.proofs.Laws.{raised-is-word}
-use Rattle.party.specs.Record.{idle}
-use Rattle.party.specs.declared.Record.{Record}
+use Rattle.record.specs.Record.{idle}
+use Rattle.record.specs.declared.Record.{Record}
 use Rattle.stages.specs.Stages.{own}
 use Rattle.step.specs.Step.{stepLeaves}
 use Rattle.call.specs.Call.{Call, recordOf, callOf}

@@ -10,10 +10,10 @@ use Rattle.logic.specs.Every.{Every, Pairs}
 use Rattle.word.specs.Word.{valueOf}
 use Rattle.swaps.specs.Remembered.{Fresh, Known}
 use Rattle.swaps.specs.Claims.{Claim, Apart}
-use Rattle.party.specs.Operation.{isPush}
-use Rattle.party.specs.Record.{idle}
-use Rattle.party.specs.Valid.{validOf}
-use Rattle.party.specs.declared.Record.{Record}
+use Rattle.record.specs.Operation.{isPush}
+use Rattle.record.specs.Record.{idle}
+use Rattle.record.specs.Valid.{validOf}
+use Rattle.record.specs.declared.Record.{Record}
 use Rattle.stages.specs.Stages.{near, own, far, atPlace, atNear}
 use Rattle.step.specs.Step.{maxOf}
 

@@ -7,7 +7,7 @@ use mathlib.Core.List.{List}
 use lib.ListN.{length}
 use Rattle.word.specs.Word.{valueOf}
 use Rattle.party.specs.Answer.{numberOf, carriedOf}
-use Rattle.party.specs.declared.Record.{Record}
+use Rattle.record.specs.declared.Record.{Record}
 use Rattle.party.specs.declared.Answer.{Answer}
 use Rattle.plain.specs.Plain.{Plain}
 use Rattle.plain.specs.Play.{room, Yields}

@@ -1,7 +1,7 @@
 -- Every starred mark holds, by computation.
 use mathlib.Core.Path.{_≡_, refl}
 use mathlib.Core.Bool.{true, _&&_}
-use Rattle.party.specs.Valid.{validOf}
+use Rattle.record.specs.Valid.{validOf}
 use Rattle.party.specs.Calls.{startOwn, startRefusal, startOf}
 use Rattle.stages.specs.Stages.{accessOf}
 use Rattle.stages.specs.Follow.{judgeOf, recheckOf}

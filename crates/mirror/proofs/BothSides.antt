@@ -7,10 +7,10 @@ use mathlib.Core.Logic.{_⊎_, inl, inr}
 use lib.ListN.{length}
 use borrow.Author.Tests.{eqb-false, le-leb}
 use native.Mathlib.Omega.{arith}
-use Rattle.party.specs.Operation.{isRight}
-use Rattle.party.specs.Valid.{isIdle}
+use Rattle.record.specs.Operation.{isRight}
+use Rattle.record.specs.Valid.{isIdle}
 use Rattle.party.specs.Answer.{isRefusal, numberOf}
-use Rattle.party.specs.declared.Record.{Record}
+use Rattle.record.specs.declared.Record.{Record}
 use Rattle.party.specs.declared.Answer.{Answer}
 use Rattle.party.specs.declared.Answer.the-variants.{GoesOn, Pushed, Popped, Full, Empty, Refused}
 use Rattle.step.specs.Step.{maxOf, stepOf}

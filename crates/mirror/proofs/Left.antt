@@ -12,10 +12,10 @@ use Rattle.logic.specs.Pick.{pick}
 use Rattle.logic.proofs.Bools.{both}
 use Rattle.word.specs.Word.{valueOf, counterOf, raisedTo, lastCounter, LN, RN}
 use Rattle.word.specs.Swap.{swapOf, wordsAfter}
-use Rattle.party.specs.Record.{again, atStage, withOperation}
-use Rattle.party.specs.Valid.{placeFits}
+use Rattle.record.specs.Record.{again, atStage, withOperation}
+use Rattle.record.specs.Valid.{placeFits}
 use Rattle.party.specs.Answer.{refused}
-use Rattle.party.specs.declared.Record.{Record}
+use Rattle.record.specs.declared.Record.{Record}
 use Rattle.party.specs.declared.Answered.{Answered}
 use Rattle.party.specs.declared.Answer.the-variants.{Popped}
 use Rattle.stages.specs.Stages.{accessOf}
@@ -26,7 +26,7 @@ use Rattle.stages.specs.declared.AfterSwap.the-variants.{Onward, Push, Pop}
 use Rattle.word.specs.declared.Swapped.{Swapped}
 use Rattle.word.specs.declared.Swapped.the-variants.{Won, Lost, Stuck}
 use Rattle.step.proofs.Cleared.{Steppable, steppable, strip-within}
-use Rattle.party.proofs.Stages.{stage-3-fits, stage-5-fits}
+use Rattle.record.proofs.Stages.{stage-3-fits, stage-5-fits}
 use Rattle.mirror.specs.Mirror.{mirrorWord, mirrorStrip, mirrorPlace, mirrorRecord, mirrorAnswer, Mirrors, StepMirrors}
 use Rattle.mirror.proofs.Words.{order-stays, mirror-value, mirror-counter, mirror-same, mirror-is-RN, mirror-is-LN, mirror-raised}
 use Rattle.mirror.proofs.Strips.{length-mirror, mirror-at, mirror-set}

@@ -5,9 +5,9 @@ use mathlib.Core.Bool.{Bool, true, false, _&&_, and-false}
 use lib.Dec.{eqb, leb}
 use borrow.Author.Tests.{eqb-true, eqb-false, eq-eqb, ne-eqb, leb-true, leb-false, le-leb, lt-leb}
 use native.Mathlib.Omega.{arith}
-use Rattle.party.specs.Record.{atStage, withOperation}
-use Rattle.party.specs.Valid.{operationFits, validOf}
-use Rattle.party.specs.declared.Record.{Record}
+use Rattle.record.specs.Record.{atStage, withOperation}
+use Rattle.record.specs.Valid.{operationFits, validOf}
+use Rattle.record.specs.declared.Record.{Record}
 use Rattle.step.specs.Step.{maxOf, stepOwn, stepRefusal}
 use Rattle.mirror.specs.Mirror.{mirrorPlace, mirrorRecord}
 

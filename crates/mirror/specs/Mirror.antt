@@ -6,8 +6,8 @@ use lib.ListN.{length}
 use lib.Dec.{eqb, leb, ltb}
 use Rattle.logic.specs.Pick.{pick}
 use Rattle.word.specs.Word.{valueOf, counterOf, wordOf, LN, RN}
-use Rattle.party.specs.Record.{withOperation, withPlace, withFirst, withSecond}
-use Rattle.party.specs.declared.Record.{Record}
+use Rattle.record.specs.Record.{withOperation, withPlace, withFirst, withSecond}
+use Rattle.record.specs.declared.Record.{Record}
 use Rattle.party.specs.declared.Answer.{Answer}
 use Rattle.party.specs.declared.Answer.the-variants.{GoesOn, Pushed, Popped, Full, Empty, Refused}
 use Rattle.party.specs.declared.Answered.{Answered}

@@ -5,10 +5,10 @@ use mathlib.Core.Bool.{true, not}
 use lib.Dec.{leb, ltb}
 use borrow.Author.Tests.{leb-true, ltb-false, not-false}
 use Rattle.logic.proofs.Bools.{both, passed}
-use Rattle.party.specs.Operation.{orderFits}
-use Rattle.party.specs.Valid.{isIdle, validOf}
+use Rattle.record.specs.Operation.{orderFits}
+use Rattle.record.specs.Valid.{isIdle, validOf}
 use Rattle.party.specs.Calls.{maxFits, startOwn, startRefusal}
-use Rattle.party.specs.declared.Record.{Record}
+use Rattle.record.specs.declared.Record.{Record}
 
 pub max-within : (max : ℕ) → maxFits max ≡ true → (1 ≤ max) × (max ≤ 4094)
 max-within max e =

@@ -7,14 +7,14 @@ use borrow.Author.Tests.{lt-ltb, eqb-true}
 use native.Mathlib.Omega.{arith}
 use Rattle.logic.specs.Pick.{pick}
 use Rattle.logic.proofs.Bools.{whichever}
-use Rattle.party.specs.Operation.{orderFits}
-use Rattle.party.specs.Record.{idle, begun}
-use Rattle.party.specs.Valid.{validOf}
+use Rattle.record.specs.Operation.{orderFits}
+use Rattle.record.specs.Record.{idle, begun}
+use Rattle.record.specs.Valid.{validOf}
 use Rattle.party.specs.Answer.{goingOn, refused, unless, RefusedKeeps}
 use Rattle.party.specs.Calls.{startRefusal, startOf, withdrawRefusal, withdrawOf}
-use Rattle.party.specs.declared.Record.{Record}
+use Rattle.record.specs.declared.Record.{Record}
 use Rattle.party.specs.declared.Answered.{Answered}
-use Rattle.party.proofs.Stages.{ValidAt, at-valid}
+use Rattle.record.proofs.Stages.{ValidAt, at-valid}
 use Rattle.party.proofs.Cleared.{startable}
 
 -- Two results that keep one promise are equal.

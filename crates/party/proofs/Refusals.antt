@@ -6,11 +6,11 @@ use lib.Dec.{leb, ltb}
 use borrow.Author.Tests.{ne-eqb, leb-true}
 use native.Mathlib.Omega.{arith}
 use Rattle.logic.proofs.Bools.{both, whichever}
-use Rattle.party.specs.Operation.{orderFits}
-use Rattle.party.specs.Valid.{isIdle, validOf}
+use Rattle.record.specs.Operation.{orderFits}
+use Rattle.record.specs.Valid.{isIdle, validOf}
 use Rattle.party.specs.Answer.{isRefusal, refused, unless}
 use Rattle.party.specs.Calls.{maxFits, startOwn, startRefusal, withdrawOwn, withdrawRefusal}
-use Rattle.party.specs.declared.Record.{Record}
+use Rattle.record.specs.declared.Record.{Record}
 use Rattle.party.specs.declared.Answered.{Answered}
 
 pub data Checked (number : ℕ) : Type 0 where

@@ -4,11 +4,11 @@ use mathlib.Core.Path.{_≡_}
 use mathlib.Core.Bool.{Bool, true, _&&_}
 use lib.Dec.{eqb, leb}
 use Rattle.logic.specs.Pick.{pick}
-use Rattle.party.specs.declared.Record.{Record}
+use Rattle.record.specs.declared.Record.{Record}
 use Rattle.party.specs.declared.Answer.{Answer}
 use Rattle.party.specs.declared.Answer.the-variants.{GoesOn, Pushed, Popped, Full, Empty, Refused}
 use Rattle.party.specs.declared.Answered.{Answered}
-use Rattle.party.specs.Record.{idle}
+use Rattle.record.specs.Record.{idle}
 
 abbrev pub numberOf : Answer → ℕ
 numberOf GoesOn = 0

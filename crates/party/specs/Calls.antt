@@ -3,11 +3,11 @@ use Prim.Native.Nat.{ℕ}
 use mathlib.Core.Bool.{Bool, not, _&&_}
 use lib.Dec.{leb, ltb}
 use Rattle.logic.specs.Pick.{pick}
-use Rattle.party.specs.Operation.{orderFits}
-use Rattle.party.specs.Record.{idle, begun}
-use Rattle.party.specs.Valid.{isIdle, validOf}
+use Rattle.record.specs.Operation.{orderFits}
+use Rattle.record.specs.Record.{idle, begun}
+use Rattle.record.specs.Valid.{isIdle, validOf}
 use Rattle.party.specs.Answer.{goingOn, unless}
-use Rattle.party.specs.declared.Record.{Record}
+use Rattle.record.specs.declared.Record.{Record}
 use Rattle.party.specs.declared.Answered.{Answered}
 
 -- MAX is from 1 to 4,094

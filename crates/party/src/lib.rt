@@ -1,29 +1,18 @@
-// A party: the record of its operation, when the record is valid, and the two calls that need no strip.
+// A party: what a call answers, and the two calls that need no strip.
 pub mod make;
-pub mod side;
-pub mod valid;
 
-use crate::make::begun_record;
 use crate::make::going_on;
-use crate::make::idle_record;
 use crate::make::refused_with;
-use crate::side::order_fits;
-use crate::valid::is_valid;
 use logic::pick_u32;
+use record::Record;
+use record::make::begun_record;
+use record::make::idle_record;
+use record::side::order_fits;
+use record::valid::is_valid;
 ghost use mathlib.Core.Path.{_≡_};
 ghost use Rattle.party.specs.Answer.{numberOf, carriedOf};
 ghost use Rattle.party.specs.Calls.{maxFits, startOwn, startRefusal, startOf};
 ghost use Rattle.party.specs.Calls.{withdrawOwn, withdrawRefusal, withdrawOf};
-
-// The record of a party, as wide as in the image.
-pub struct Record {
-    pub operation: u8,
-    pub stage: u8,
-    pub k: u16,
-    pub v: u32,
-    pub first: u64,
-    pub second: u64,
-}
 
 // What a call answers: specs/Answer.antt gives document 01's number and carried order for each case.
 pub enum Answer {

@@ -7,8 +7,8 @@ use lib.Seq.{sets, length-sets, take-all}
 use native.Mathlib.Nat.{add-zero, zero-add}
 use native.Mathlib.Numerals.{add-one}
 use native.Mathlib.Omega.{arith}
-use Rattle.party.specs.Record.{idle}
-use Rattle.party.specs.declared.Record.{Record}
+use Rattle.record.specs.Record.{idle}
+use Rattle.record.specs.declared.Record.{Record}
 use Rattle.little.proofs.Runs.{whole-run}
 use Rattle.format.specs.Spelling.{wordsFrom, recordsFrom}
 use Rattle.format.proofs.Parts.{Part, partsFrom, length-parts, part-at}

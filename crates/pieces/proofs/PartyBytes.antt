@@ -5,7 +5,7 @@ use mathlib.Core.List.{List}
 use lib.ListN.{length, length-append}
 use lib.Seq.{sets, length-sets}
 use native.Mathlib.Omega.{arith}
-use Rattle.party.specs.declared.Record.{Record}
+use Rattle.record.specs.declared.Record.{Record}
 use Rattle.little.specs.Bytes.{numberAt, bytesOf}
 use Rattle.little.proofs.Runs.{run-append, below-a-run}
 use Rattle.little.proofs.Digits.{AreBytes, length-bytes, read-is-laid, number-below-run, laid-fitting-is-read}

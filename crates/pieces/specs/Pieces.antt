@@ -4,8 +4,8 @@ use mathlib.Core.Bool.{Bool, true, not, _&&_}
 use mathlib.Core.List.{List, _++_}
 use lib.Dec.{eqb}
 use Rattle.logic.specs.Pick.{pick}
-use Rattle.party.specs.Valid.{validOf}
-use Rattle.party.specs.declared.Record.{Record}
+use Rattle.record.specs.Valid.{validOf}
+use Rattle.record.specs.declared.Record.{Record}
 use Rattle.step.specs.Step.{stripFits, maxOf}
 use Rattle.call.specs.Call.{tableFits}
 use Rattle.little.specs.Bytes.{bytesOf}

@@ -2,12 +2,12 @@
 // Public for the calls on whole images: past the checks, these ask that the bytes lie inside.
 use call::table_fits;
 use format::WORDS;
+use format::fields::is_spare;
+use format::fields::read_record;
 use format::gate::read_header;
-use format::record::is_spare;
-use format::record::read_record;
 use little::number_8;
-use party::Record;
-use party::valid::is_valid;
+use record::Record;
+use record::valid::is_valid;
 use step::strip_fits;
 ghost use mathlib.Core.Path.{_≡_};
 ghost use Prim.Native.Nat.{_+_, _*_, _≤_};

@@ -2,19 +2,19 @@
 // Public for the calls on whole images: past the checks, these ask that the bytes lie inside.
 use crate::reading::lent_fits;
 use format::WORDS;
+use format::fields::write_record;
 use format::fresh::lay_header;
-use format::record::write_record;
 use little::put_8;
 use logic::pick_u32;
-use party::Record;
-use party::valid::is_valid;
+use record::Record;
+use record::valid::is_valid;
 ghost use mathlib.Core.Path.{_≡_};
 ghost use mathlib.Core.Bool.{not};
 ghost use Prim.Native.Nat.{_+_, _*_, _≤_};
 ghost use lib.ListN.{length};
 ghost use lib.Seq.{sets};
 ghost use Rattle.logic.specs.Pick.{pick};
-ghost use Rattle.party.specs.Valid.{validOf};
+ghost use Rattle.record.specs.Valid.{validOf};
 ghost use Rattle.step.specs.Step.{maxOf};
 ghost use Rattle.format.specs.Format.{wordPlace, wordsBase, recordPlace};
 ghost use Rattle.format.specs.Spelling.{wordBytes};

@@ -9,7 +9,7 @@ use lib.Dec.{eqb}
 use native.Mathlib.Omega.{arith}
 use Rattle.logic.specs.Total.{total}
 use Rattle.logic.proofs.Lists.{total-of-both}
-use Rattle.party.specs.Operation.{isRight}
+use Rattle.record.specs.Operation.{isRight}
 use Rattle.plain.specs.Plain.{Plain}
 use Rattle.plain.specs.Play.{added, endOrder, removed, Yields}
 use Rattle.plain.specs.Accounts.{once, held, accepts, takes}

@@ -6,7 +6,7 @@ use mathlib.Core.List.{List, [], _∷_, _++_}
 use lib.ListN.{length, length-append, length-take, length-drop}
 use lib.Seq.{take-append-seam, getD-append-seam}
 use native.Mathlib.Omega.{arith}
-use Rattle.party.specs.Operation.{isRight, isPush}
+use Rattle.record.specs.Operation.{isRight, isPush}
 use Rattle.plain.specs.Plain.{Plain, placesOf}
 use Rattle.plain.specs.Play.{room, added, endOrder, removed, Yields}
 use Rattle.plain.proofs.Ways.{Way, way, yields-pushed, yields-full, yields-popped, yields-empty}

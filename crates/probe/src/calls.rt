@@ -1,8 +1,8 @@
 // Each command: its numbers are handed to the proved call, and what that gives is written. False where they are not what it takes.
 use console::number::compared;
-use console::record::fits_record;
-use console::record::record_of;
-use console::record::say_record;
+use console::records::fits_record;
+use console::records::record_of;
+use console::records::say_record;
 use console::say::first;
 use console::say::more;
 use console::say::words;

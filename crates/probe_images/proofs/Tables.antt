@@ -16,9 +16,9 @@ use denote.Array.{Array, array-typed}
 use denote.Slice.{Room}
 use denote.Struct.Laws as LL
 use Rattle.walks.proofs.Loans.{array-val, IsArray}
-use Rattle.party.specs.declared.Record.{Record}
-use Rattle.party.proofs.Record as R
-use Rattle.party.proofs.Record.Laws as R′
+use Rattle.record.specs.declared.Record.{Record}
+use Rattle.record.proofs.Record as R
+use Rattle.record.proofs.Record.Laws as R′
 
 abbrev pub Table : RattleType
 Table = Array R.the-row 17

@@ -1,6 +1,6 @@
 // A table that is held by value, and lent to the two calls on whole images. Whoever lends records is walked by hand: so these two
 // functions do no more than that.
-use party::Record;
+use record::Record;
 ghost use Prim.Native.Nat.{_≤_};
 
 // One record more than a table may have, so that a table that is too long can be shown.

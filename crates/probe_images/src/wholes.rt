@@ -4,13 +4,13 @@ use crate::held::read_into;
 use crate::held::write_from;
 use console::hex::hex;
 use console::number::number_at;
-use console::record::fits_record;
-use console::record::record_of;
-use console::record::say_record;
+use console::records::fits_record;
+use console::records::record_of;
+use console::records::say_record;
 use console::say::first;
 use console::say::words;
-use party::Record;
-use party::make::idle_record;
+use record::Record;
+use record::make::idle_record;
 ghost use Prim.Native.Nat.{_+_, _*_, _≤_};
 ghost use lib.ListN.{length};
 

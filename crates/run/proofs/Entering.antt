@@ -9,8 +9,8 @@ use lib.Dec.{eqb}
 use borrow.Author.Tests.{eqb-true, eqb-false, ne-eqb}
 use native.Mathlib.Omega.{arith}
 use Rattle.logic.specs.Pick.{pick}
-use Rattle.party.specs.Record.{idle}
-use Rattle.party.specs.declared.Record.{Record}
+use Rattle.record.specs.Record.{idle}
+use Rattle.record.specs.declared.Record.{Record}
 use Rattle.party.proofs.Refusals.{checked-is-small}
 use Rattle.call.specs.Call.{Call, partyOf, gate}
 use Rattle.call.proofs.Called.{gate-checked, past-gate, call-through, call-away}

@@ -6,7 +6,7 @@ use mathlib.Core.List.{List}
 use lib.Dec.{eqb}
 use Rattle.logic.specs.Pick.{pick}
 use Rattle.party.specs.Answer.{numberOf, carriedOf}
-use Rattle.party.specs.declared.Record.{Record}
+use Rattle.record.specs.declared.Record.{Record}
 use Rattle.party.specs.declared.Answered.{Answered}
 use Rattle.call.specs.Call.{Call, partyOf}
 use Rattle.entry.specs.OnRecord.{onRecordOf}

@@ -4,7 +4,7 @@ use entry::on_record;
 use entry::party_of;
 use logic::pick_u32;
 use party::Answered;
-use party::Record;
+use record::Record;
 ghost use mathlib.Core.Path.{_≡_};
 ghost use Rattle.entry.specs.Entry.{askedOf};
 ghost use Rattle.entry.specs.OnRecord.{onRecordLeaves};

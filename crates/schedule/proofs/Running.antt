@@ -5,8 +5,8 @@ use mathlib.Core.List.{List, [], _∷_, _++_}
 use lib.ListN.{length, getD, set, take, replicate}
 use native.Mathlib.Omega.{arith}
 use native.Mathlib.Numerals.{add-one}
-use Rattle.party.specs.Record.{idle}
-use Rattle.party.specs.declared.Record.{Record}
+use Rattle.record.specs.Record.{idle}
+use Rattle.record.specs.declared.Record.{Record}
 use Rattle.call.specs.Call.{Call}
 use Rattle.text.specs.Writing.{Puts}
 use Rattle.text.proofs.Puts.{Rest, rest-begins, rest-goes-on, rest-ends, puts-nothing}

@@ -1,7 +1,7 @@
 // The run: one entry after the other, each with its line.
 use entry::read;
 use listing::put_line;
-use party::make::idle_record;
+use record::make::idle_record;
 use run::party_in_16;
 use run::take_turn;
 ghost use mathlib.Core.Path.{_≡_};

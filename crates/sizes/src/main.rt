@@ -1,7 +1,7 @@
 // Bench mark M11: strips of 2, 3, 4,096 and 4,097 words: 1, taken, taken, 1. A right push with hint 1 takes its first step on each, and
 // the step's number is written, one to a line.
 use libc::STDOUT_FILENO;
-use party::make::begun_record;
+use record::make::begun_record;
 
 fn step_on(strip: &mut [u64]) {
     let got = step::step(strip, begun_record(0, 7), 1);

@@ -6,11 +6,11 @@ use Rattle.logic.specs.Pick.{pick}
 use Rattle.word.specs.Word.{valueOf}
 use Rattle.word.specs.declared.Swapped.{Swapped}
 use Rattle.word.specs.declared.Swapped.the-variants.{Won, Lost, Stuck}
-use Rattle.party.specs.Operation.{isPush}
-use Rattle.party.specs.Record.{again, atStage, withFirst, withSecond}
-use Rattle.party.specs.Valid.{atWall}
+use Rattle.record.specs.Operation.{isPush}
+use Rattle.record.specs.Record.{again, atStage, withFirst, withSecond}
+use Rattle.record.specs.Valid.{atWall}
 use Rattle.party.specs.Answer.{goingOn, ends, refused}
-use Rattle.party.specs.declared.Record.{Record}
+use Rattle.record.specs.declared.Record.{Record}
 use Rattle.party.specs.declared.Answered.{Answered}
 use Rattle.party.specs.declared.Answer.the-variants.{Pushed, Popped, Full, Empty}
 use Rattle.stages.specs.Stages.{own, far}

@@ -5,8 +5,8 @@ use lib.ListN.{getD}
 use lib.Dec.{eqb}
 use Rattle.logic.specs.Pick.{pick}
 use Rattle.word.specs.Word.{valueOf}
-use Rattle.party.specs.Operation.{isPush, neighbour, ownNull, farNull}
-use Rattle.party.specs.declared.Record.{Record}
+use Rattle.record.specs.Operation.{isPush, neighbour, ownNull, farNull}
+use Rattle.record.specs.declared.Record.{Record}
 use Rattle.stages.specs.declared.AfterLook.the-variants.{Remember, Judge, Recheck}
 use Rattle.stages.specs.declared.AfterSwap.the-variants.{Onward, Push, Pop}
 use Rattle.stages.specs.declared.Access.{Access}

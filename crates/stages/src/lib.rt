@@ -2,9 +2,9 @@
 // kind of memory.
 pub mod follow;
 
-use party::Record;
-use party::side::neighbour_of;
-use party::side::own_null;
+use record::Record;
+use record::side::neighbour_of;
+use record::side::own_null;
 use word::value;
 ghost use mathlib.Core.Path.{_≡_};
 ghost use Rattle.stages.specs.Stages.{accessOf};

@@ -7,7 +7,7 @@ use borrow.Author.Tests.{ne-eqb}
 use Rattle.word.specs.Swap.{SwapPromise}
 use Rattle.word.specs.declared.Swapped.{Swapped}
 use Rattle.party.specs.Answer.{refused}
-use Rattle.party.specs.declared.Record.{Record}
+use Rattle.record.specs.declared.Record.{Record}
 use Rattle.party.specs.declared.Answered.{Answered}
 use Rattle.stages.specs.Stages.{accessOf}
 use Rattle.stages.specs.Follow.{lookedOf, swappedOf}

@@ -6,11 +6,11 @@ use lib.Dec.{eqb, leb}
 use borrow.Author.Tests.{leb-true, not-false, eqb-false}
 use native.Mathlib.Omega.{arith}
 use Rattle.logic.proofs.Bools.{both, passed, whichever}
-use Rattle.party.specs.Operation.{isPush}
-use Rattle.party.specs.Valid.{isIdle, validOf, placeFits}
-use Rattle.party.specs.declared.Record.{Record}
-use Rattle.party.proofs.Stages.{ValidAt, valid-at}
-use Rattle.party.proofs.Places.{inside}
+use Rattle.record.specs.Operation.{isPush}
+use Rattle.record.specs.Valid.{isIdle, validOf, placeFits}
+use Rattle.record.specs.declared.Record.{Record}
+use Rattle.record.proofs.Stages.{ValidAt, valid-at}
+use Rattle.record.proofs.Places.{inside}
 use Rattle.stages.specs.Stages.{near, accessOf}
 use Rattle.step.specs.Step.{stripFits, maxOf, hintFits, stepOwn, stepRefusal, aimed}
 use Rattle.stages.specs.declared.Access.{Access}

@@ -4,9 +4,9 @@ use mathlib.Core.Path.{_≡_}
 use mathlib.Core.Bool.{true, false}
 use borrow.Author.Tests.{ne-eqb}
 use Rattle.word.specs.Word.{valueOf}
-use Rattle.party.specs.Operation.{isPush}
-use Rattle.party.specs.Record.{withPlace}
-use Rattle.party.specs.declared.Record.{Record}
+use Rattle.record.specs.Operation.{isPush}
+use Rattle.record.specs.Record.{withPlace}
+use Rattle.record.specs.declared.Record.{Record}
 use Rattle.stages.specs.Stages.{near, own, accessOf}
 use Rattle.step.specs.Step.{aimed}
 use Rattle.stages.specs.declared.AfterLook.the-variants.{Remember, Judge, Recheck}

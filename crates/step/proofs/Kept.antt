@@ -8,14 +8,14 @@ use lib.ListN.{length}
 use lib.Dec.{eqb}
 use borrow.Author.Tests.{not-true, eqb-true}
 use Rattle.logic.proofs.Bools.{both}
-use Rattle.party.specs.Operation.{isPush}
-use Rattle.party.specs.Record.{again}
-use Rattle.party.specs.Valid.{validOf, placeFits, operationFits}
+use Rattle.record.specs.Operation.{isPush}
+use Rattle.record.specs.Record.{again}
+use Rattle.record.specs.Valid.{validOf, placeFits, operationFits}
 use Rattle.party.specs.Answer.{isRefusal, numberOf, carriedOf, RefusedKeeps}
-use Rattle.party.specs.declared.Record.{Record}
+use Rattle.record.specs.declared.Record.{Record}
 use Rattle.party.specs.declared.Answered.{Answered}
 use Rattle.party.proofs.Kept.{idle-is-valid}
-use Rattle.party.proofs.Stages.{ValidAt, at-valid, stage-1-fits, stage-2-fits, stage-3-fits, stage-4-fits, busy-fits}
+use Rattle.record.proofs.Stages.{ValidAt, at-valid, stage-1-fits, stage-2-fits, stage-3-fits, stage-4-fits, busy-fits}
 use Rattle.step.specs.Step.{maxOf, stepOf, stepLeaves, StepPromise}
 use Rattle.step.proofs.Cleared.{Steppable}
 use Rattle.step.proofs.Accesses.{Gone}

@@ -5,9 +5,9 @@ use mathlib.Core.Path.{_≡_, refl}
 use mathlib.Core.Logic.{_⊎_, inl, inr}
 use mathlib.Core.List.{List}
 use native.Mathlib.Omega.{arith}
-use Rattle.party.specs.Record.{idle}
+use Rattle.record.specs.Record.{idle}
 use Rattle.party.specs.Answer.{numberOf}
-use Rattle.party.specs.declared.Record.{Record}
+use Rattle.record.specs.declared.Record.{Record}
 use Rattle.step.specs.Step.{stepOf}
 use Rattle.step.proofs.Went.{GoneOn}
 

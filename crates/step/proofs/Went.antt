@@ -13,13 +13,13 @@ use Rattle.word.specs.Word.{valueOf, raisedTo}
 use Rattle.word.specs.Swap.{swapOf, wordsAfter}
 use Rattle.word.specs.declared.Swapped.{Swapped}
 use Rattle.word.proofs.Laws.{Took, SwapGoes, swap-goes}
-use Rattle.party.specs.Operation.{isPush}
-use Rattle.party.specs.Record.{again, atStage, withPlace, withFirst, withSecond}
-use Rattle.party.specs.Valid.{isIdle, validOf}
+use Rattle.record.specs.Operation.{isPush}
+use Rattle.record.specs.Record.{again, atStage, withPlace, withFirst, withSecond}
+use Rattle.record.specs.Valid.{isIdle, validOf}
 use Rattle.party.specs.Answer.{isRefusal, goingOn, ends, refused}
-use Rattle.party.specs.declared.Record.{Record}
+use Rattle.record.specs.declared.Record.{Record}
 use Rattle.party.specs.declared.Answer.the-variants.{Pushed, Popped, Full, Empty}
-use Rattle.party.proofs.Stages.{ValidAt, valid-at}
+use Rattle.record.proofs.Stages.{ValidAt, valid-at}
 use Rattle.party.proofs.Refusals.{Checked, refusal-is-not-0}
 use Rattle.stages.specs.Stages.{near, own, atPlace, atNear, accessOf}
 use Rattle.stages.specs.Follow.{pushAtWall, popAtFar, judgeOf, recheckOf, wonOf, swappedOf}

@@ -8,11 +8,11 @@ use lib.Dec.{eqb, leb}
 use Rattle.logic.specs.Pick.{pick}
 use Rattle.word.specs.Word.{raisedTo}
 use Rattle.word.specs.Swap.{swapOf, wordsAfter}
-use Rattle.party.specs.Operation.{inRange}
-use Rattle.party.specs.Record.{withPlace}
-use Rattle.party.specs.Valid.{isIdle, validOf}
+use Rattle.record.specs.Operation.{inRange}
+use Rattle.record.specs.Record.{withPlace}
+use Rattle.record.specs.Valid.{isIdle, validOf}
 use Rattle.party.specs.Answer.{unless}
-use Rattle.party.specs.declared.Record.{Record}
+use Rattle.record.specs.declared.Record.{Record}
 use Rattle.party.specs.declared.Answered.{Answered}
 use Rattle.stages.specs.Stages.{accessOf}
 use Rattle.stages.specs.Follow.{lookedOf, swappedOf}

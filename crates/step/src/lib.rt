@@ -1,10 +1,10 @@
 // The step: one access for each call.
 use party::Answered;
-use party::Record;
 use party::make::refused_with;
-use party::make::with_place;
-use party::side::in_range;
-use party::valid::is_valid;
+use record::Record;
+use record::make::with_place;
+use record::side::in_range;
+use record::valid::is_valid;
 use stages::Access;
 use stages::access_of;
 use stages::follow::looked;

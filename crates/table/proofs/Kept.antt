@@ -6,10 +6,10 @@ use mathlib.Core.List.{List}
 use lib.ListN.{length, getD}
 use lib.Seq.{getD-set-other}
 use lib.Dec.{eqb}
-use Rattle.party.specs.Record.{idle}
+use Rattle.record.specs.Record.{idle}
 use Rattle.party.specs.Answer.{isRefusal}
 use Rattle.party.specs.Calls.{startOf, withdrawOf}
-use Rattle.party.specs.declared.Record.{Record}
+use Rattle.record.specs.declared.Record.{Record}
 use Rattle.party.specs.declared.Answered.{Answered}
 use Rattle.stages.specs.Stages.{near}
 use Rattle.step.specs.Step.{maxOf, stepLeaves}

@@ -11,9 +11,9 @@ use types.Kit.{Given}
 use denote.Laws.{Is}
 use denote.Memory.{mem}
 use denote.Struct.Laws as LL
-use Rattle.party.specs.declared.Record.{Record}
-use Rattle.party.proofs.Record as R
-use Rattle.party.proofs.Record.Laws as R′
+use Rattle.record.specs.declared.Record.{Record}
+use Rattle.record.proofs.Record as R
+use Rattle.record.proofs.Record.Laws as R′
 use Rattle.table.specs.declared.Said.{Said}
 use Rattle.table.specs.declared.Told.{Told}
 use Rattle.table.proofs.Said as S

@@ -7,9 +7,9 @@ use lib.ListN.{length, getD, set, length-replicate}
 use lib.Dec.{leb, ltb}
 use borrow.Author.Tests.{leb-true, leb-false, le-leb, lt-leb}
 use native.Mathlib.Omega.{arith}
-use Rattle.party.specs.Record.{idle}
+use Rattle.record.specs.Record.{idle}
 use Rattle.party.specs.Calls.{maxFits, startOf, startRefusal, withdrawOf, withdrawRefusal}
-use Rattle.party.specs.declared.Record.{Record}
+use Rattle.record.specs.declared.Record.{Record}
 use Rattle.step.specs.Step.{stripFits, maxOf, stepOf, stepLeaves, stepRefusal}
 use Rattle.call.specs.Call.{Call, partyOf, gate, ownOf, ownLeaves, recordOf, callOf}
 use Rattle.call.proofs.Called.{past-gate, call-through, call-away}

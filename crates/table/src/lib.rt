@@ -3,7 +3,7 @@
 use call::gated;
 use party::Answer;
 use party::Answered;
-use party::Record;
+use record::Record;
 ghost use mathlib.Core.Path.{_≡_};
 ghost use Prim.Native.Nat.{_+_};
 ghost use Rattle.party.specs.Calls.{startOf, withdrawOf};

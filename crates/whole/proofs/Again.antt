@@ -9,8 +9,8 @@ use lib.Dec.{eqb}
 use borrow.Author.Tests.{eqb-true, eq-eqb}
 use native.Mathlib.Omega.{arith}
 use Rattle.logic.proofs.Bools.{both}
-use Rattle.party.specs.Valid.{validOf}
-use Rattle.party.specs.declared.Record.{Record}
+use Rattle.record.specs.Valid.{validOf}
+use Rattle.record.specs.declared.Record.{Record}
 use Rattle.step.specs.Step.{maxOf}
 use Rattle.little.specs.Bytes.{numberAt}
 use Rattle.little.proofs.Digits.{AreBytes, read-is-laid}

@@ -11,8 +11,8 @@ use native.Mathlib.Omega.{arith}
 use Rattle.logic.specs.Every.{Every}
 use Rattle.logic.proofs.Bools.{passed}
 use Rattle.word.specs.Word.{IsWord}
-use Rattle.party.specs.Record.{idle}
-use Rattle.party.specs.declared.Record.{Record}
+use Rattle.record.specs.Record.{idle}
+use Rattle.record.specs.declared.Record.{Record}
 use Rattle.step.specs.Step.{maxOf}
 use Rattle.little.specs.Bytes.{numberAt, bytesOf}
 use Rattle.little.proofs.Runs.{below-a-run}

@@ -7,8 +7,8 @@ use lib.Seq.{sets}
 use native.Mathlib.Nat.{add-zero}
 use native.Mathlib.Numerals.{add-one}
 use native.Mathlib.Omega.{arith}
-use Rattle.party.specs.Record.{idle}
-use Rattle.party.specs.declared.Record.{Record}
+use Rattle.record.specs.Record.{idle}
+use Rattle.record.specs.declared.Record.{Record}
 use Rattle.little.proofs.Runs.{run-append, whole-run}
 use Rattle.step.specs.Step.{maxOf}
 use Rattle.format.specs.Format.{wordPlace, wordsBase}

@@ -9,7 +9,7 @@ use borrow.Author.Tests.{eq-eqb, ne-eqb, not-false}
 use native.Mathlib.Omega.{arith}
 use Rattle.logic.specs.Pick.{pick}
 use Rattle.logic.proofs.Bools.{passed}
-use Rattle.party.specs.declared.Record.{Record}
+use Rattle.record.specs.declared.Record.{Record}
 use Rattle.format.specs.Format.{wordPlace, wordsBase, recordsIn}
 use Rattle.step.specs.Step.{maxOf}
 use Rattle.format.specs.Spelling.{wordsFrom, recordsFrom, wordBytes}

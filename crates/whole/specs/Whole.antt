@@ -6,9 +6,9 @@ use mathlib.Core.List.{List, [], _∷_, _++_}
 use lib.ListN.{length, getD}
 use lib.Dec.{eqb}
 use Rattle.logic.specs.Pick.{pick}
-use Rattle.party.specs.Record.{idle}
-use Rattle.party.specs.Valid.{validOf}
-use Rattle.party.specs.declared.Record.{Record}
+use Rattle.record.specs.Record.{idle}
+use Rattle.record.specs.Valid.{validOf}
+use Rattle.record.specs.declared.Record.{Record}
 use Rattle.step.specs.Step.{maxOf}
 use Rattle.format.specs.Spelling.{stripOf, tableOf, wordBytes}
 use Rattle.format.specs.Fresh.{headerBytes}

@@ -1,6 +1,5 @@
 // Whole images: one read into a lent strip and a lent table, and one written from them. All checks come first, so a refusal writes
 // nothing. The loops over the lent table are functions of their own, walked by hand; the work of a turn is done by value, in `pieces`.
-use party::Record;
 use pieces::reading::read_refusal;
 use pieces::reading::read_strip;
 use pieces::reading::record_in;
@@ -8,6 +7,7 @@ use pieces::writing::next_refusal;
 use pieces::writing::sizes_refusal;
 use pieces::writing::write_front;
 use pieces::writing::write_party;
+use record::Record;
 ghost use mathlib.Core.Path.{_≡_};
 ghost use Prim.Native.Nat.{_+_, _*_, _≤_};
 ghost use lib.ListN.{length};

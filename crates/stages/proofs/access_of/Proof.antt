@@ -1,6 +1,6 @@
 use borrow.Author.Tests.{ne-eqb}
 use Rattle.stages.specs.Stages.{accessOf}
-use Rattle.party.proofs.Operations.{push-is, pop-is}
+use Rattle.record.proofs.Operations.{push-is, pop-is}
 use borrow.Author.Needs.{needs}
 use Rattle.stages.proofs.access_of.Statement.{statement}
 use Rattle.stages.proofs.access_of.Tie as tie

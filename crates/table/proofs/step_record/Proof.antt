@@ -10,9 +10,9 @@ use Rattle.walks.proofs.Prelude.{look, look-raw, store-raw, init, stop, hop, fl
 use Rattle.walks.proofs.Prelude.{FmC, fmOf, WpFn-mono, owns, Is, Body, mem, uint-vals, uint-tells, u32, u64, RefT, MutRef, MutSlice, sliceVal, slice-vals, ptr-vals, mut-tells, mut-slice-tells, Room, plain, owned, heard, nothing}
 use Rattle.walks.proofs.Prelude.{onEntry, Meets, tripleOf, Contract, Triple, calls-at, entered, cited, says, Stays, gave-slice, stay-ref, stay-none, walkOf, goes-none, goes-ref, goes-gave-slice, ends-at, walked, walk-meets, yes}
 use Rattle.walks.proofs.Steps.{opens-struct, closes-struct, after-call, frees-local, with-u32, with-struct, keeps-ref, result-struct}
-use Rattle.party.specs.declared.Record.{Record}
-use Rattle.party.proofs.Record as R
-use Rattle.party.proofs.Record.Laws as R′
+use Rattle.record.specs.declared.Record.{Record}
+use Rattle.record.proofs.Record as R
+use Rattle.record.proofs.Record.Laws as R′
 use Rattle.step.specs.Step.{stepOf, stepLeaves}
 use Rattle.call.specs.Call.{Call}
 use Rattle.table.specs.Inside.{toldOf}

@@ -9,8 +9,8 @@ use Rattle.walks.proofs.Prelude.{look, store, init, stop, hop, fld, from, load,
 use Rattle.walks.proofs.Prelude.{FmC, fmOf, WpFn-mono, owns, Is, uint-makes, u8, u32, u64, RefT, MutSlice, ShrSlice, shr-slice-tells, sliceVal, slice-vals, mut-slice-tells, Room, plain, shrSliceOf, owned, heard, nothing}
 use Rattle.walks.proofs.Prelude.{onEntry, Meets, tripleOf, Contract, Triple, calls-at, entered, cited, says, Stays, stay-dropped, gave-slice, walkOf, goes-dropped, goes-gave-slice, ends-at, walked, walk-meets, yes}
 use Rattle.walks.proofs.Steps.{shares-on, gives-up, after-call, guards, frees-local, frees-room, with-usize, result-u32, result-unit, some-number, no-number}
-use Rattle.party.specs.declared.Record.{Record}
-use Rattle.party.proofs.Record as R
+use Rattle.record.specs.declared.Record.{Record}
+use Rattle.record.proofs.Record as R
 use Rattle.format.specs.Format.{wordPlace, wordsBase}
 use Rattle.format.specs.Spelling.{wordsFrom, recordsFrom}
 use Rattle.pieces.specs.Pieces.{readRefusal}

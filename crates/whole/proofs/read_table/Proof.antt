@@ -10,10 +10,10 @@ use Rattle.walks.proofs.Prelude.{look, store, store-raw, init, stop, hop, fld, 
 use Rattle.walks.proofs.Prelude.{fmOf, WpFn-mono, owns, uint-vals, uint-tells, u8, usize, RefT, MutSlice, ShrSlice, shr-slice-tells, sliceVal, slice-vals, mut-slice-tells, Room, Held, heres, codedHoleys, place-is, plain, shrSliceOf, heard, nothing}
 use Rattle.walks.proofs.Prelude.{onEntry, Meets, tripleOf, Contract, Triple, calls-at, entered, cited, says, needs, Stays, stay-dropped, stay-slice, stay-none, walkOf, goes-none, goes-dropped, goes-slice, ends-at, walked, walk-meets, yes, scaled-fits}
 use Rattle.walks.proofs.Steps.{Upto, Nearer, nearer-wf, is-below, turn-fits, next-turn, is-nearer, localTy, goes-on, shares-on, opens-element, closes-element, after-call, frees-local, frees-room, with-usize, keeps-slice, result-struct}
-use Rattle.party.specs.declared.Record.{Record}
-use Rattle.party.specs.Record.{idle}
-use Rattle.party.proofs.Record as R
-use Rattle.party.proofs.Record.Laws as R′
+use Rattle.record.specs.declared.Record.{Record}
+use Rattle.record.specs.Record.{idle}
+use Rattle.record.proofs.Record as R
+use Rattle.record.proofs.Record.Laws as R′
 use Rattle.table.proofs.Machine.{recordSize, record-typed}
 use Rattle.format.specs.Format.{wordPlace, wordsBase}
 use Rattle.format.specs.Spelling.{recordAt, recordsFrom}

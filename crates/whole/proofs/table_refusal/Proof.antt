@@ -13,11 +13,11 @@ use Rattle.walks.proofs.Prelude.{fmOf, WpFn-mono, owns, Is, uint-vals, uint-tel
 use Rattle.walks.proofs.Prelude.{onEntry, Meets, tripleOf, Contract, Triple, calls-at, entered, cited, says, needs, Stays, stay-dropped, stay-none, walkOf, goes-none, goes-dropped, ends-at, walked, walk-meets, yes, scaled-fits}
 use Rattle.walks.proofs.Steps.{SharedAll, Upto, Nearer, nearer-wf, is-below, turn-fits, next-turn, is-nearer, localTy, goes-on, looks-element, shuts-element, after-plain-call, frees-local, frees-room, with-u32, with-usize, with-struct, result-u32}
 use Rattle.logic.specs.Pick.{pick}
-use Rattle.party.specs.declared.Record.{Record}
-use Rattle.party.specs.Record.{idle}
-use Rattle.party.specs.Valid.{validOf}
-use Rattle.party.proofs.Record as R
-use Rattle.party.proofs.Record.Laws as R′
+use Rattle.record.specs.declared.Record.{Record}
+use Rattle.record.specs.Record.{idle}
+use Rattle.record.specs.Valid.{validOf}
+use Rattle.record.proofs.Record as R
+use Rattle.record.proofs.Record.Laws as R′
 use Rattle.step.specs.Step.{maxOf}
 use Rattle.table.proofs.Machine.{recordSize, machine, IsRecord, record-typed}
 use Rattle.pieces.specs.Pieces.{allBelow}

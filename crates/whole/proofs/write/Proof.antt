@@ -13,8 +13,8 @@ use Rattle.walks.proofs.Prelude.{FmC, fmOf, WpFn-mono, owns, Is, uint-makes, u8
 use Rattle.walks.proofs.Prelude.{onEntry, Meets, tripleOf, Contract, Triple, calls-at, entered, cited, says, Stays, stay-dropped, gave-slice, walkOf, goes-dropped, goes-gave-slice, ends-at, walked, walk-meets, yes}
 use Rattle.walks.proofs.Steps.{shares-on, lends-on, comes-home, gives-up, after-call, after-plain-call, guards, frees-local, frees-room, with-usize, result-u32, result-unit, some-number, no-number}
 use Rattle.logic.specs.Pick.{pick}
-use Rattle.party.specs.declared.Record.{Record}
-use Rattle.party.proofs.Record as R
+use Rattle.record.specs.declared.Record.{Record}
+use Rattle.record.proofs.Record as R
 use Rattle.step.specs.Step.{maxOf}
 use Rattle.format.specs.Format.{wordPlace, wordsBase}
 use Rattle.format.specs.Spelling.{wordBytes}

@@ -13,10 +13,10 @@ use Rattle.walks.proofs.Prelude.{look, look-raw, store, init, stop, hop, fld, f
 use Rattle.walks.proofs.Prelude.{fmOf, WpFn-mono, owns, uint-vals, uint-tells, u8, usize, RefT, MutSlice, ShrSlice, shr-slice-tells, sliceVal, slice-vals, mut-slice-tells, Room, place-is, plain, shrSliceOf, heard, nothing}
 use Rattle.walks.proofs.Prelude.{onEntry, Meets, tripleOf, Contract, Triple, calls-at, entered, cited, says, needs, Stays, stay-dropped, stay-slice, stay-none, walkOf, goes-none, goes-dropped, goes-slice, ends-at, walked, walk-meets, yes, scaled-fits}
 use Rattle.walks.proofs.Steps.{SharedAll, Upto, Nearer, nearer-wf, is-below, turn-fits, next-turn, is-nearer, localTy, goes-on, looks-element, shuts-element, lends-on, comes-home, after-call, frees-local, frees-room, with-usize, with-struct, result-unit}
-use Rattle.party.specs.declared.Record.{Record}
-use Rattle.party.specs.Record.{idle}
-use Rattle.party.proofs.Record as R
-use Rattle.party.proofs.Record.Laws as R′
+use Rattle.record.specs.declared.Record.{Record}
+use Rattle.record.specs.Record.{idle}
+use Rattle.record.proofs.Record as R
+use Rattle.record.proofs.Record.Laws as R′
 use Rattle.table.proofs.Machine.{recordSize, machine, IsRecord, record-typed}
 use Rattle.format.specs.Format.{wordPlace, wordsBase}
 use Rattle.pieces.specs.Pieces.{partyBytes}

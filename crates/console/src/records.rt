@@ -1,0 +1,34 @@
+// A record as numbers, read and written. No other place of the text doors names its fields.
+use crate::say::more;
+use record::Record;
+ghost use Prim.Native.Nat.{_≤_};
+ghost use lib.ListN.{length};
+
+pub fn fits_record(given: &[u64]) -> bool
+    requires { ⌜ 7 ≤ length (now given) ⌝ }
+{
+    (given[1] < 256) & (given[2] < 256) & (given[3] < 65536) & (given[4] < 4294967296)
+}
+
+// The record that stands after a command's first number. Its fields were compared by fits_record.
+pub fn record_of(given: &[u64]) -> Record
+    requires { ⌜ 7 ≤ length (now given) ⌝ }
+{
+    Record {
+        operation: (given[1] % 256) as u8,
+        stage: (given[2] % 256) as u8,
+        k: (given[3] % 65536) as u16,
+        v: (given[4] % 4294967296) as u32,
+        first: given[5],
+        second: given[6],
+    }
+}
+
+pub fn say_record(r: Record) {
+    more(r.operation as u64);
+    more(r.stage as u64);
+    more(r.k as u64);
+    more(r.v as u64);
+    more(r.first);
+    more(r.second);
+}

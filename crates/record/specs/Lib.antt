@@ -1,0 +1,3 @@
+pub mod Operation
+pub mod Record
+pub mod Valid
