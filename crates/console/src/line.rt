@@ -47,7 +47,7 @@ fn read_all(line: &mut [u8]) -> usize {
 }
 
 // Reads a line, and answers how many bytes it has with its newline: 0 at the end of the input. For a line that the buffer has no place for
-// stands an empty one.
+// stands an empty one. Public for the text doors, whose buffer has room.
 pub fn read_line(line: &mut [u8]) -> usize
     requires { ⌜ 1 ≤ length (now line) ⌝ }
     ensures { λ r. ⌜ r ≤ length (now (line .exit)) ⌝ }
@@ -65,6 +65,7 @@ fn is_blank(b: u8) -> bool {
 }
 
 // The first place, from a place on, that is not blank, or where asked the first that is; the line's end where there is none.
+// Public for numbers and bytes, which begin inside the line.
 pub fn skip(line: &[u8], from: usize, blank: bool) -> usize
     requires { ⌜ from ≤ length (now line) ⌝ }
     ensures { λ r. ⌜ from ≤ r ⌝ }
@@ -97,7 +98,7 @@ fn back(line: &[u8], to: usize, from: usize, blank: bool) -> usize
     i
 }
 
-// The place after the first field from a place on.
+// The place after the first field from a place on. Public for the text doors, which begin inside the line.
 pub fn past(line: &[u8], from: usize) -> usize
     requires { ⌜ from ≤ length (now line) ⌝ }
     ensures { λ r. ⌜ r ≤ length (now (line .entry)) ⌝ }
@@ -105,7 +106,7 @@ pub fn past(line: &[u8], from: usize) -> usize
     skip(line, skip(line, from, true), false)
 }
 
-// Where the last field begins that stands from a place on.
+// Where the last field begins that stands from a place on. Public for the text doors, which begin inside the line.
 pub fn last(line: &[u8], from: usize) -> usize
     requires { ⌜ from ≤ length (now line) ⌝ }
     ensures { λ r. ⌜ from ≤ r ⌝ }
@@ -141,7 +142,7 @@ fn before(field: &[u8], names: &[u8]) -> usize {
     names.len()
 }
 
-// The same of the first field from a place on.
+// The same of the first field from a place on. Public for the text doors, which begin inside the line.
 pub fn which(line: &[u8], from: usize, names: &[u8]) -> usize
     requires { ⌜ from ≤ length (now line) ⌝ }
 {

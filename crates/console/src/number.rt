@@ -46,6 +46,7 @@ pub fn number_room() -> [u64; 4224] {
 }
 
 // The numbers of a line from a place on. Answers how many: more than any room has where a field is no number, or they are too many.
+// Public for the text doors, which begin inside the line.
 pub fn numbers(line: &[u8], from: usize, room: &mut [u64]) -> usize
     requires { ⌜ from ≤ length (now line) ⌝ }
 {

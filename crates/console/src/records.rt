@@ -4,13 +4,15 @@ use record::Record;
 ghost use Prim.Native.Nat.{_≤_};
 ghost use lib.ListN.{length};
 
+// Whether six numbers after a command's first fit a record. Public for the text doors, which have counted the numbers.
 pub fn fits_record(given: &[u64]) -> bool
     requires { ⌜ 7 ≤ length (now given) ⌝ }
 {
     (given[1] < 256) & (given[2] < 256) & (given[3] < 65536) & (given[4] < 4294967296)
 }
 
-// The record that stands after a command's first number. Its fields were compared by fits_record.
+// The record that stands after a command's first number. Its fields were compared by fits_record. Public for the text doors, which have
+// counted the numbers.
 pub fn record_of(given: &[u64]) -> Record
     requires { ⌜ 7 ≤ length (now given) ⌝ }
 {

@@ -1,6 +1,6 @@
 -- The checks before the record's own: what a refused one gives, and what one that passes knows.
 use Prim.Native.Nat.{ℕ, _≤_, _<_}
-use mathlib.Core.Path.{_≡_, refl, sym, _∙_}
+use mathlib.Core.Path.{_≡_, refl, sym, _∙_, ap}
 use mathlib.Core.Bool.{Bool, true, false, not}
 use mathlib.Core.List.{List}
 use lib.ListN.{length}
@@ -33,13 +33,30 @@ has-number number refusal {found} {refused} none some = go (eqb refusal 0) refl
     go true e = none ∙ sym (eqb-true refusal 0 e)
     go false e = some
 
-pub header-number : (image : List ℕ) → headerOf image .number ≡ headerRefusal image
+header-number : (image : List ℕ) → headerOf image .number ≡ headerRefusal image
 unfolding headerOf
 header-number image = has-number (λ (h : Header). h .number) (headerRefusal image) refl refl
 
-pub header-taken : (image : List ℕ) → headerRefusal image ≡ 0 → headerOf image ≡ takenHeader image
-unfolding headerOf
-header-taken image taken = rw taken refl
+-- What a header that was read says, where its number is 0.
+pub record Says (image : List ℕ) (got : Header) : Type 0 where
+  pub taken : headerRefusal image ≡ 0
+  pub max-is : got .max ≡ maxAt image
+  pub parties-are : got .parties ≡ partiesAt image
+
+module _ (image : List ℕ) (got : Header) (read : got ≡ headerOf image) where
+  pub number-said : got .number ≡ headerRefusal image
+  number-said = ap (λ (h : Header). h .number) read ∙ header-number image
+
+  pub says : got .number ≡ 0 → Says image got
+  unfolding headerOf
+  says zero =
+      let none : headerRefusal image ≡ 0 = sym number-said ∙ zero in
+      let is : got ≡ takenHeader image = read ∙ rw none refl in
+      record {
+        taken = none;
+        max-is = ap (λ (h : Header). h .max) is;
+        parties-are = ap (λ (h : Header). h .parties) is;
+      }
 
 module _ (image : List ℕ) (unknown : Bool) (party : ℕ) where
   pub named-number : namedOf image unknown party .number ≡ namedRefusal image unknown party

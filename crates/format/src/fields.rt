@@ -1,4 +1,4 @@
-// A record in the bytes of an image. The calls on images, which have checked the lengths, use these: they ask that the bytes lie inside.
+// A record in the bytes of an image.
 use little::number_2;
 use little::number_4;
 use little::number_8;
@@ -13,7 +13,7 @@ ghost use lib.Seq.{sets};
 ghost use Rattle.header.specs.Header.{versionAt};
 ghost use Rattle.format.specs.Spelling.{recordAt, isSpare, recordBytes};
 
-// The record that its bytes spell.
+// The record that its bytes spell. Public for the calls on images, which have checked the length.
 pub fn read_record(image: &[u8], at: usize) -> Record
     requires { ⌜ at + 32 ≤ length (now image) ⌝ }
     ensures { λ r. ⌜ r ≡ recordAt (versionAt (now (image .entry))) (now (image .entry)) at ⌝ }
@@ -28,7 +28,7 @@ pub fn read_record(image: &[u8], at: usize) -> Record
     }
 }
 
-// The bytes that spell no field are zero.
+// The bytes that spell no field are zero. Public for the calls on images, which have checked the length.
 pub fn is_spare(image: &[u8], at: usize) -> bool
     requires { ⌜ at + 32 ≤ length (now image) ⌝ }
     ensures { λ t. ⌜ t ≡ isSpare (versionAt (now (image .entry))) (now (image .entry)) at ⌝ }
@@ -36,7 +36,7 @@ pub fn is_spare(image: &[u8], at: usize) -> bool
     number_8(image, at + 24) == 0
 }
 
-// A record into its bytes.
+// A record into its bytes. Public for the calls on images, which have checked the length.
 pub fn write_record(image: &mut [u8], at: usize, r: Record)
     requires { ⌜ at + 32 ≤ length (now image) ⌝ }
     ensures { λ _. ⌜ now (image .exit) ≡ sets (now (image .entry)) at (recordBytes (versionAt (now (image .entry))) r) ⌝ }

@@ -1,12 +1,11 @@
-// What the header of an image and that of a schedule file share. Those who read either check the length first: what reads bytes
-// here asks that the header lies inside.
+// What the header of an image and that of a schedule file share.
 use little::number_2;
 ghost use mathlib.Core.Path.{_≡_};
 ghost use Prim.Native.Nat.{_≤_};
 ghost use lib.ListN.{length};
 ghost use Rattle.header.specs.Header.{isMarked, versionAt, partiesAt, maxAt, countsFit};
 
-// "PD" and a third letter.
+// "PD" and a third letter. Public for the formats, which have checked the length.
 pub fn is_marked(bytes: &[u8], letter: u8) -> bool
     requires { ⌜ 8 ≤ length (now bytes) ⌝ }
     ensures { λ t. ⌜ t ≡ isMarked letter (now (bytes .entry)) ⌝ }
@@ -14,6 +13,7 @@ pub fn is_marked(bytes: &[u8], letter: u8) -> bool
     (bytes[0] == b'P') & (bytes[1] == b'D') & (bytes[2] == letter)
 }
 
+// The version. Public for the formats, which have checked the length.
 pub fn version(bytes: &[u8]) -> u16
     requires { ⌜ 8 ≤ length (now bytes) ⌝ }
     ensures { λ n. ⌜ n ≡ versionAt (now (bytes .entry)) ⌝ }
@@ -21,6 +21,7 @@ pub fn version(bytes: &[u8]) -> u16
     number_2(bytes, 3)
 }
 
+// The party count. Public for the formats, which have checked the length.
 pub fn parties(bytes: &[u8]) -> u8
     requires { ⌜ 8 ≤ length (now bytes) ⌝ }
     ensures { λ n. ⌜ n ≡ partiesAt (now (bytes .entry)) ⌝ }
@@ -28,6 +29,7 @@ pub fn parties(bytes: &[u8]) -> u8
     bytes[5]
 }
 
+// MAX. Public for the formats, which have checked the length.
 pub fn max(bytes: &[u8]) -> u16
     requires { ⌜ 8 ≤ length (now bytes) ⌝ }
     ensures { λ n. ⌜ n ≡ maxAt (now (bytes .entry)) ⌝ }

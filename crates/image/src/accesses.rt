@@ -1,5 +1,5 @@
 // An access made in the bytes of an image, in the strip that begins at a base, and what follows it written in the record at a place.
-// Private to the crate, whose step has checked the header: these ask that the bytes lie inside.
+// Private to the crate.
 use format::fields::write_record;
 use little::number_8;
 use little::put_8;
@@ -27,7 +27,7 @@ fn look_in(image: &[u8], base: usize, place: u32) -> u64
     number_8(image, base + 8 * (place as usize))
 }
 
-// A look, and what follows it.
+// A look, and what follows it. Step, which has checked the header, calls it.
 pub fn make_look(
     image: &mut [u8],
     base: usize,
@@ -46,7 +46,8 @@ pub fn make_look(
     answer
 }
 
-// A swap that lost begins again; one that would win at the counter's end writes nothing; one that won writes word and record.
+// A swap that lost begins again; one that would win at the counter's end writes nothing; one that won writes word and record. Step, which
+// has checked the header, calls it.
 // What follows is written out here, not taken from step's `swapped`: the record then need not be built before it is known.
 pub fn make_swap(
     image: &mut [u8],

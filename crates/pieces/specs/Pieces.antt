@@ -22,11 +22,12 @@ allBelow test (suc count) = allBelow test count && test count
 abbrev pub lentFits : (words parties : ℕ) → Bool
 lentFits words parties = stripFits words && tableFits parties
 
--- a party's record in the image is valid, and its spare bytes are zero
+-- the record at a place of the image is valid, and its spare bytes are zero
+abbrev pub isSoundAt : (image : List ℕ) (max at : ℕ) → Bool
+isSoundAt image max at = isSpare (versionAt image) image at && validOf max (recordAt (versionAt image) image at)
+
 abbrev pub isSound : (image : List ℕ) (max party : ℕ) → Bool
-isSound image max party =
-    isSpare (versionAt image) image (recordPlace (recordsBase (versionAt image) max) party)
-    && validOf max (recordAt (versionAt image) image (recordPlace (recordsBase (versionAt image) max) party))
+isSound image max party = isSoundAt image max (recordPlace (recordsBase (versionAt image) max) party)
 
 abbrev pub agrees : (image : List ℕ) (words parties : ℕ) → Bool
 agrees image words parties = eqb words (maxAt image + 2) && eqb parties (partiesAt image)

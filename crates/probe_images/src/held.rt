@@ -9,7 +9,7 @@ pub struct Filled {
     pub table: [Record; 17],
 }
 
-// Reads into the strip and the first so many records of the table.
+// Reads into the strip and the first so many records of the table. The command read, which has counted them, calls it.
 pub fn read_into(image: &[u8], strip: &mut [u64], mut table: [Record; 17], parties: usize) -> Filled
     requires { ⌜ parties ≤ 17 ⌝ }
 {
@@ -17,7 +17,7 @@ pub fn read_into(image: &[u8], strip: &mut [u64], mut table: [Record; 17], parti
     Filled { number, table }
 }
 
-// Writes from the strip and the first so many records of the table.
+// Writes from the strip and the first so many records of the table. The command write, which has counted them, calls it.
 pub fn write_from(image: &mut [u8], strip: &[u64], table: [Record; 17], parties: usize) -> u32
     requires { ⌜ parties ≤ 17 ⌝ }
 {

@@ -12,7 +12,7 @@ ghost use Rattle.history.specs.Run.{begin, endFrom};
 ghost use Rattle.listing.specs.Listing.{runText};
 ghost use Rattle.schedule.specs.File.{callsFrom};
 
-// The entries of a file that list has checked, on a strip with every party idle.
+// The entries of a file, on a strip with every party idle. List, which has checked the file, calls it.
 pub fn run_entries(
     file: &[u8],
     strip: &mut [u64],

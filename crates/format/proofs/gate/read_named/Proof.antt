@@ -5,13 +5,12 @@ use lib.ListN.{length}
 use denote.Ref.{now}
 use borrow.Author.Tests.{not-true, not-false}
 use native.Mathlib.Omega.{arith}
-use Rattle.header.specs.Header.{versionAt, partiesAt, maxAt}
+use Rattle.header.specs.Header.{versionAt, partiesAt}
 use Rattle.format.specs.Format.{headerRefusal, partyPlace}
 use Rattle.format.specs.Spelling.{isSpare}
-use Rattle.format.specs.Inside.{notNamed, takenHeader}
-use Rattle.format.specs.declared.Header.{Header}
+use Rattle.format.specs.Inside.{notNamed}
 use Rattle.format.proofs.Sizes.{header-sized}
-use Rattle.format.proofs.Gated.{header-number, header-taken, named-found, refused-by-header, refused-by-operation, refused-by-party, refused-by-spare, refused-by-none}
+use Rattle.format.proofs.Gated.{Says, number-said, says, named-found, refused-by-header, refused-by-operation, refused-by-party, refused-by-spare, refused-by-none}
 use borrow.Author.Needs.{needs}
 use Rattle.format.proofs.gate.read_named.Statement.{statement}
 use Rattle.format.proofs.gate.read_named.Tie as tie
@@ -21,7 +20,7 @@ abbrev image-of : tie.After-read-header → List ℕ
 image-of c = now (c .before .before .args .image)
 
 number-is : (c : tie.After-read-header) → c .read-header .result .number ≡ headerRefusal (image-of c)
-number-is c = ap (λ (h : Header). h .number) (c .read-header .ensures) ∙ header-number (image-of c)
+number-is c = number-said (image-of c) _ (c .read-header .ensures)
 
 -- past the header's check: what it says
 abbrev read : tie.Else1 → tie.After-read-header
@@ -30,37 +29,28 @@ read c = c .before .before
 abbrev party-of : tie.Else1 → ℕ
 party-of c = read c .before .before .args .party
 
-taken : (c : tie.Else1) → headerRefusal (image-of (read c)) ≡ 0
-taken c = sym (number-is (read c)) ∙ c .if1 .left
-
-header-is : (c : tie.Else1) → read c .read-header .result ≡ takenHeader (image-of (read c))
-header-is c = read c .read-header .ensures ∙ header-taken (image-of (read c)) (taken c)
-
-parties-are : (c : tie.Else1) → read c .read-header .result .parties ≡ partiesAt (image-of (read c))
-parties-are c = ap (λ (h : Header). h .parties) (header-is c)
-
-max-is : (c : tie.Else1) → read c .read-header .result .max ≡ maxAt (image-of (read c))
-max-is c = ap (λ (h : Header). h .max) (header-is c)
+said : (c : tie.Else1) → Says (image-of (read c)) (read c .read-header .result)
+said c = says (image-of (read c)) _ (read c .read-header .ensures) (c .if1 .left)
 
 -- past the party's: the record that is named lies inside
 abbrev asked : tie.Else3 → tie.Else1
 asked c = c .before .before .before
 
 inside : (c : tie.Else3) → party-of (asked c) < partiesAt (image-of (read (asked c)))
-inside c = omega (arith, c .if3 .left, parties-are (asked c))
+inside c = omega (arith, c .if3 .left, said (asked c) .parties-are)
 
 abbrev past : tie.After-records-base → tie.Else3
 past c = c .before .before
 
 at-is : (c : tie.After-records-base)
     → c .records-base .result + 32 * party-of (asked (past c)) ≡ partyPlace (image-of (read (asked (past c)))) (party-of (asked (past c)))
-at-is c = omega (arith, c .records-base .ensures, max-is (asked (past c)))
+at-is c = omega (arith, c .records-base .ensures, said (asked (past c)) .max-is)
 
 room : (c : tie.After-records-base)
     → c .records-base .result + 32 * party-of (asked (past c)) + 32 ≤ length (image-of (read (asked (past c))))
 room c =
     let a = asked (past c) in
-    omega (arith, header-sized (image-of (read a)) (taken a) .exact, at-is c, inside (past c))
+    omega (arith, header-sized (image-of (read a)) (said a .taken) .exact, at-is c, inside (past c))
 
 abbrev based : tie.After-is-spare → tie.After-records-base
 based c = c .before
@@ -90,7 +80,7 @@ not-named-requires-2 c κs = search needs
 returns-2 : tie.Need-returns-2
 returns-2 c =
     let a = c .before .before in
-    c .not-named2 .ensures ∙ sym (refused-by-operation _ _ (party-of a) (taken a) (c .before .if2 .taken))
+    c .not-named2 .ensures ∙ sym (refused-by-operation _ _ (party-of a) (said a .taken) (c .before .if2 .taken))
 
 cast-if3 : tie.Need-cast-if3
 cast-if3 c = search needs
@@ -103,7 +93,7 @@ returns-3 c =
     let known = c .before .before .before in
     let a = known .before in
     c .not-named3 .ensures
-    ∙ sym (refused-by-party _ _ (party-of a) (taken a) (known .if2 .left) (omega (arith, parties-are a, c .before .if3 .taken)))
+    ∙ sym (refused-by-party _ _ (party-of a) (said a .taken) (known .if2 .left) (omega (arith, said a .parties-are, c .before .if3 .taken)))
 
 cast-records-base : tie.Need-cast-records-base
 cast-records-base c = search needs
@@ -128,14 +118,14 @@ returns-4 c =
     let s = c .before .before in
     let e = past (based s) in
     c .not-named4 .ensures
-    ∙ sym (refused-by-spare _ _ (party-of (asked e)) (taken (asked e)) (e .before .before .if2 .left) (inside e) (sym (spare-is s) ∙ not-true _ (c .before .if4 .taken)))
+    ∙ sym (refused-by-spare _ _ (party-of (asked e)) (said (asked e) .taken) (e .before .before .if2 .left) (inside e) (sym (spare-is s) ∙ not-true _ (c .before .if4 .taken)))
 
 returns-5 : tie.Need-returns-5
 returns-5 c =
     let s = c .before in
     let e = past (based s) in
-    let none = refused-by-none _ _ (party-of (asked e)) (taken (asked e)) (e .before .before .if2 .left) (inside e) (sym (spare-is s) ∙ not-false _ (c .if4 .left)) in
-    rw (max-is (asked e), at-is (based s)) (sym (named-found _ _ (party-of (asked e)) none))
+    let none = refused-by-none _ _ (party-of (asked e)) (said (asked e) .taken) (e .before .before .if2 .left) (inside e) (sym (spare-is s) ∙ not-false _ (c .if4 .left)) in
+    rw (said (asked e) .max-is, at-is (based s)) (sym (named-found _ _ (party-of (asked e)) none))
 
 pub read-named-spec : {M : Type 1} → statement M
 read-named-spec =

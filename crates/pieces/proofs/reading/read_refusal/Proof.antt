@@ -8,10 +8,8 @@ use borrow.Author.Tests.{not-true, not-false}
 use native.Mathlib.Omega.{arith}
 use Rattle.header.specs.Header.{maxAt, partiesAt}
 use Rattle.format.specs.Format.{headerRefusal}
-use Rattle.format.specs.Inside.{takenHeader}
-use Rattle.format.specs.declared.Header.{Header}
 use Rattle.format.proofs.Sizes.{header-sized}
-use Rattle.format.proofs.Gated.{header-number, header-taken}
+use Rattle.format.proofs.Gated.{Says, number-said, says}
 use Rattle.pieces.specs.Pieces.{allBelow, lentFits, isSound, agrees}
 use Rattle.pieces.proofs.Checked.{refused-by-lent, refused-by-header, refused-by-lengths, refused-by-records, refused-by-none}
 use borrow.Author.Needs.{needs}
@@ -32,29 +30,20 @@ fit : (c : tie.After-read-header) → lentFits (words-of c) (parties-of c) ≡ t
 fit c = sym (c .before .before .lent-fits .ensures) ∙ not-false _ (c .before .if1 .left)
 
 number-is : (c : tie.After-read-header) → c .read-header .result .number ≡ headerRefusal (image-of c)
-number-is c = ap (λ (h : Header). h .number) (c .read-header .ensures) ∙ header-number (image-of c)
+number-is c = number-said (image-of c) _ (c .read-header .ensures)
 
 abbrev read-in : tie.Else2 → tie.After-read-header
 read-in c = c .before .before
 
-taken : (c : tie.Else2) → headerRefusal (image-of (read-in c)) ≡ 0
-taken c = sym (number-is (read-in c)) ∙ c .if2 .left
-
-header-is : (c : tie.Else2) → read-in c .read-header .result ≡ takenHeader (image-of (read-in c))
-header-is c = read-in c .read-header .ensures ∙ header-taken (image-of (read-in c)) (taken c)
-
-max-is : (c : tie.Else2) → read-in c .read-header .result .max ≡ maxAt (image-of (read-in c))
-max-is c = ap (λ (h : Header). h .max) (header-is c)
-
-parties-are : (c : tie.Else2) → read-in c .read-header .result .parties ≡ partiesAt (image-of (read-in c))
-parties-are c = ap (λ (h : Header). h .parties) (header-is c)
+said : (c : tie.Else2) → Says (image-of (read-in c)) (read-in c .read-header .result)
+said c = says (image-of (read-in c)) _ (read-in c .read-header .ensures) (c .if2 .left)
 
 agree-is : (c : tie.Else2)
     → eqb (words-of (read-in c)) (read-in c .read-header .result .max + 2) && eqb (parties-of (read-in c)) (read-in c .read-header .result .parties)
     ≡ agrees (image-of (read-in c)) (words-of (read-in c)) (parties-of (read-in c))
 agree-is c =
-    ap (λ (max : ℕ). eqb (words-of (read-in c)) (max + 2) && eqb (parties-of (read-in c)) (read-in c .read-header .result .parties)) (max-is c)
-    ∙ ap (λ (parties : ℕ). eqb (words-of (read-in c)) (maxAt (image-of (read-in c)) + 2) && eqb (parties-of (read-in c)) parties) (parties-are c)
+    ap (λ (max : ℕ). eqb (words-of (read-in c)) (max + 2) && eqb (parties-of (read-in c)) (read-in c .read-header .result .parties)) (said c .max-is)
+    ∙ ap (λ (parties : ℕ). eqb (words-of (read-in c)) (maxAt (image-of (read-in c)) + 2) && eqb (parties-of (read-in c)) parties) (said c .parties-are)
 
 abbrev past-in : tie.After-are-sound → tie.Else2
 past-in c = c .before .before .before .before
@@ -64,8 +53,8 @@ sound-is : (c : tie.After-are-sound)
 sound-is c =
     let read = read-in (past-in c) in
     c .are-sound .ensures
-    ∙ ap (λ (max : ℕ). allBelow (isSound (image-of read) max) (read .read-header .result .parties)) (max-is (past-in c))
-    ∙ ap (λ (parties : ℕ). allBelow (isSound (image-of read) (maxAt (image-of read))) parties) (parties-are (past-in c))
+    ∙ ap (λ (max : ℕ). allBelow (isSound (image-of read) max) (read .read-header .result .parties)) (said (past-in c) .max-is)
+    ∙ ap (λ (parties : ℕ). allBelow (isSound (image-of read) (maxAt (image-of read))) parties) (said (past-in c) .parties-are)
 
 lent-fits-requires : tie.Need-lent-fits-requires
 lent-fits-requires c κs = search needs
@@ -98,24 +87,24 @@ returns-3 : tie.Need-returns-3
 returns-3 c =
     let past = c .before .before .before in
     let read = read-in past in
-    sym (refused-by-lengths (image-of read) (words-of read) (parties-of read) (fit read) (taken past) (sym (agree-is past) ∙ not-true _ (c .if3 .taken)))
+    sym (refused-by-lengths (image-of read) (words-of read) (parties-of read) (fit read) (said past .taken) (sym (agree-is past) ∙ not-true _ (c .if3 .taken)))
 
 are-sound-requires : tie.Need-are-sound-requires
 are-sound-requires c κs =
     let past = c .before .before .before in
-    omega (arith, max-is past, parties-are past, header-sized (image-of (read-in past)) (taken past) .exact)
+    omega (arith, said past .max-is, said past .parties-are, header-sized (image-of (read-in past)) (said past .taken) .exact)
 
 returns-4 : tie.Need-returns-4
 returns-4 c =
     let checked = c .before in
     let read = read-in (past-in checked) in
-    sym (refused-by-records (image-of read) (words-of read) (parties-of read) (fit read) (taken (past-in checked)) (sym (agree-is (past-in checked)) ∙ not-false _ (checked .before .if3 .left)) (sym (sound-is checked) ∙ not-true _ (c .if4 .taken)))
+    sym (refused-by-records (image-of read) (words-of read) (parties-of read) (fit read) (said (past-in checked) .taken) (sym (agree-is (past-in checked)) ∙ not-false _ (checked .before .if3 .left)) (sym (sound-is checked) ∙ not-true _ (c .if4 .taken)))
 
 returns-5 : tie.Need-returns-5
 returns-5 c =
     let checked = c .before in
     let read = read-in (past-in checked) in
-    sym (refused-by-none (image-of read) (words-of read) (parties-of read) (fit read) (taken (past-in checked)) (sym (agree-is (past-in checked)) ∙ not-false _ (checked .before .if3 .left)) (sym (sound-is checked) ∙ not-false _ (c .if4 .left)))
+    sym (refused-by-none (image-of read) (words-of read) (parties-of read) (fit read) (said (past-in checked) .taken) (sym (agree-is (past-in checked)) ∙ not-false _ (checked .before .if3 .left)) (sym (sound-is checked) ∙ not-false _ (c .if4 .left)))
 
 pub read-refusal-spec : {M : Type 1} → statement M
 read-refusal-spec =
