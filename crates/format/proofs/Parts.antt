@@ -8,7 +8,7 @@ use native.Mathlib.Nat.{mul-suc, mul-zero, add-zero}
 use native.Mathlib.Omega.{arith}
 use Rattle.logic.specs.Every.{Every}
 use Rattle.little.proofs.Runs.{Agree, below-a-run, past-a-run}
-use Rattle.little.proofs.Digits.{AreBytes}
+use Rattle.little.specs.Bytes.{AreBytes}
 
 -- How a thing is read from bytes and laid in them.
 pub record Part (A : Type 0) : Type 1 where

@@ -8,10 +8,10 @@ use native.Mathlib.Nat.{add-assoc}
 use native.Mathlib.Numerals.{add-one}
 use native.Mathlib.Omega.{arith}
 use Rattle.record.specs.declared.Record.{Record}
-use Rattle.little.specs.Bytes.{numberAt, bytesOf}
+use Rattle.little.specs.Bytes.{numberAt, bytesOf, AreBytes}
 use Rattle.format.specs.Spelling.{RecordFits, recordAt, recordBytes, recordsFrom, withRecords}
 use Rattle.little.proofs.Runs.{Agree, below-a-run, run-append}
-use Rattle.little.proofs.Digits.{AreBytes, length-bytes, digits-are-bytes, byte-stays, bytes-stay, same-number, number-below-run, number-fits, laid-fitting-is-read, read-is-laid}
+use Rattle.little.proofs.Digits.{length-bytes, digits-are-bytes, byte-stays, bytes-stay, same-number, number-below-run, number-fits, laid-fitting-is-read, read-is-laid}
 use Rattle.format.proofs.Parts.{Part, partsFrom, withParts}
 
 -- a record laid field by field

@@ -9,12 +9,12 @@ use Rattle.logic.specs.Every.{Every}
 use Rattle.word.specs.Word.{IsWord}
 use Rattle.record.specs.Record.{idle}
 use Rattle.record.specs.declared.Record.{Record}
-use Rattle.little.specs.Bytes.{numberAt, bytesOf}
+use Rattle.little.specs.Bytes.{numberAt, bytesOf, AreBytes}
 use Rattle.header.specs.Header.{versionAt, partiesAt, maxAt}
 use Rattle.format.specs.Format.{wordsBase, wordPlace, lengthOf, recordsIn, partyPlace}
 use Rattle.format.specs.Spelling.{stripOf, tableOf, recordAt, wordBytes, recordBytes, spelled, RecordFits}
 use Rattle.little.proofs.Runs.{past-a-run}
-use Rattle.little.proofs.Digits.{AreBytes, length-bytes, digits-are-bytes, bytes-stay, same-number}
+use Rattle.little.proofs.Digits.{length-bytes, digits-are-bytes, bytes-stay, same-number}
 use Rattle.format.proofs.Parts.{Part, partsFrom, withParts, length-parts, length-with, below-parts, past-parts, same-parts, read-parts-laid, one-part-laid, part-at, laid-parts-read}
 use Rattle.format.proofs.Words.{wordPart, words-are-parts, words-laid-are-parts}
 use Rattle.format.proofs.Records.{length-record, recordPart, records-are-parts, records-laid-are-parts}

@@ -18,7 +18,7 @@ use Rattle.party.specs.declared.Answered.{Answered}
 use Rattle.party.proofs.Cleared.{max-within}
 use Rattle.step.specs.Step.{stripFits, maxOf}
 use Rattle.call.specs.Call.{Call, Fitting, partyOf, isUnknown, gate, ownOf, ownLeaves, recordOf, through, turnedAway, callOf}
-use Rattle.little.specs.Bytes.{bytesOf}
+use Rattle.little.specs.Bytes.{bytesOf, AreBytes}
 use Rattle.header.specs.Header.{maxAt, partiesAt, versionAt}
 use Rattle.format.specs.Format.{wordPlace, partyPlace, headerRefusal, wordsBase}
 use Rattle.format.specs.Spelling.{stripOf, tableOf, recordAt, isSpare, spelled, RecordFits}
@@ -26,7 +26,6 @@ use Rattle.format.specs.Inside.{namedRefusal}
 use Rattle.format.proofs.Records.{read-record-fits}
 use Rattle.image.specs.Inside.{recorded}
 use Rattle.image.specs.Calls.{Done, unchanged, encoded, imageOf}
-use Rattle.little.proofs.Digits.{AreBytes}
 use Rattle.image.proofs.Leaves.{words-fit, Fit, own-leaves}
 use Rattle.format.proofs.Sizes.{header-sized}
 use Rattle.format.proofs.Gated.{NamedFits, named-fits}

@@ -16,7 +16,7 @@ use Rattle.call.specs.Call.{Call, Fitting, gate, ownOf, ownLeaves, recordOf, pa
 use Rattle.format.specs.Format.{headerRefusal}
 use Rattle.format.specs.Spelling.{stripOf, tableOf, spelled, RecordFits}
 use Rattle.image.specs.Calls.{decoded, spareRefused, imageOf}
-use Rattle.little.proofs.Digits.{AreBytes}
+use Rattle.little.specs.Bytes.{AreBytes}
 use Rattle.image.proofs.Widths.{idle-fits}
 use Rattle.format.proofs.Sizes.{header-sized}
 use Rattle.format.proofs.Spelled.{strip-length, table-length, spelled-strip-is-decoded, spelled-table-is-decoded}

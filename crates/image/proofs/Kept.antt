@@ -13,7 +13,7 @@ use Rattle.call.proofs.Calls.{refused-call-changes-nothing}
 use Rattle.format.specs.Format.{headerRefusal}
 use Rattle.format.specs.Spelling.{stripOf, tableOf}
 use Rattle.image.specs.Calls.{Done, spareRefused, imageOf, layRefusal, layOf, ImagePromise}
-use Rattle.little.proofs.Digits.{AreBytes}
+use Rattle.little.specs.Bytes.{AreBytes}
 use Rattle.format.proofs.Spelled.{decoded-is-spelled}
 
 -- Two results that keep one promise are the same answer and the same bytes.

@@ -32,7 +32,8 @@ use Rattle.stages.specs.declared.Access.the-variants.{Look, Swap}
 use Rattle.step.proofs.Cleared.{steppable, hint-fits-k}
 use Rattle.format.specs.Format.{wordPlace, partyPlace, wordsBase}
 use Rattle.format.specs.Spelling.{stripOf, tableOf, RecordFits}
-use Rattle.little.proofs.Digits.{AreBytes, number-fits}
+use Rattle.little.specs.Bytes.{AreBytes}
+use Rattle.little.proofs.Digits.{number-fits}
 use Rattle.header.specs.Header.{versionAt}
 use Rattle.format.proofs.Records.{read-record-fits}
 use Rattle.image.proofs.Widths.{idle-fits, begun-fits, aimed-fits, looked-fits, swapped-fits}

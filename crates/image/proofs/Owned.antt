@@ -36,7 +36,7 @@ use Rattle.format.specs.Inside.{namedRefusal}
 use Rattle.format.specs.Format.{wordsBase}
 use Rattle.image.specs.Inside.{recorded, swapRecorded, metAt, seenAt}
 use Rattle.image.specs.Calls.{unchanged, imageOf}
-use Rattle.little.proofs.Digits.{AreBytes}
+use Rattle.little.specs.Bytes.{AreBytes}
 use Rattle.format.proofs.Gated.{named-fits}
 use Rattle.format.proofs.Spelled.{strip-length, word-is-read}
 use Rattle.image.proofs.Called.{strip-fits, max-of, placeIn, recordIn, own-refused, own-recorded, own-swapped}

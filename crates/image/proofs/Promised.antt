@@ -27,7 +27,7 @@ use Rattle.format.specs.Inside.{namedRefusal, namedOf, foundNamed}
 use Rattle.image.specs.Inside.{LookMade, SwapMade}
 use Rattle.image.specs.Calls.{Done, imageOf, ImagePromise}
 use Rattle.format.specs.declared.Named.{Named}
-use Rattle.little.proofs.Digits.{AreBytes}
+use Rattle.little.specs.Bytes.{AreBytes}
 use Rattle.format.proofs.Gated.{named-number, named-found, named-fits}
 use Rattle.image.proofs.Called.{stopped, placeIn, recordIn}
 use Rattle.image.proofs.Owned.{start-refused, start-done, withdraw-refused, withdraw-done, step-refused, hint-fits, access-inside, step-looked, step-swapped}

@@ -8,12 +8,8 @@ use lib.Arith.{mod-mul}
 use native.Mathlib.Nat.{add-zero, zero-add, mul-assoc, pow-suc, mod-one, mod-eq-of-lt, one-le-pow, mul-comm, div-div-eq-div-mul, div-one}
 use native.Mathlib.Numerals.{add-one}
 use native.Mathlib.Omega.{arith}
-use Rattle.little.specs.Bytes.{numberAt, bytesOf}
+use Rattle.little.specs.Bytes.{AreBytes, numberAt, bytesOf}
 use Rattle.little.proofs.Runs.{Agree, below-a-run, run-append}
-
--- every byte is a byte; past the end there is 0
-abbrev pub AreBytes : List ℕ → Type 0
-AreBytes l = (i : ℕ) → getD l i 0 < 256
 
 pub length-bytes : (width n : ℕ) → length (bytesOf width n) ≡ width
 unfolding bytesOf

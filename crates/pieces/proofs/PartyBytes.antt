@@ -6,9 +6,9 @@ use lib.ListN.{length, length-append}
 use lib.Seq.{sets, length-sets}
 use native.Mathlib.Omega.{arith}
 use Rattle.record.specs.declared.Record.{Record}
-use Rattle.little.specs.Bytes.{numberAt, bytesOf}
+use Rattle.little.specs.Bytes.{numberAt, bytesOf, AreBytes}
 use Rattle.little.proofs.Runs.{run-append, below-a-run}
-use Rattle.little.proofs.Digits.{AreBytes, length-bytes, read-is-laid, number-below-run, laid-fitting-is-read}
+use Rattle.little.proofs.Digits.{length-bytes, read-is-laid, number-below-run, laid-fitting-is-read}
 use Rattle.format.specs.Spelling.{recordAt, recordBytes, RecordFits}
 use Rattle.format.proofs.Records.{length-record, read-record-laid, laid-record-read}
 use Rattle.pieces.specs.Pieces.{partyBytes}

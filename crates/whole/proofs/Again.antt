@@ -12,8 +12,8 @@ use Rattle.logic.proofs.Bools.{both}
 use Rattle.record.specs.Valid.{validOf}
 use Rattle.record.specs.declared.Record.{Record}
 use Rattle.step.specs.Step.{maxOf}
-use Rattle.little.specs.Bytes.{numberAt}
-use Rattle.little.proofs.Digits.{AreBytes, read-is-laid}
+use Rattle.little.specs.Bytes.{numberAt, AreBytes}
+use Rattle.little.proofs.Digits.{read-is-laid}
 use Rattle.header.specs.Header.{isMarked, maxAt, partiesAt, versionAt}
 use Rattle.format.specs.Format.{wordPlace, wordsBase, recordsIn, partyPlace}
 use Rattle.format.specs.Spelling.{stripOf, tableOf, recordAt, recordsFrom, isSpare, wordBytes}

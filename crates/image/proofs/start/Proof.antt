@@ -6,7 +6,7 @@ use denote.Ref.{now}
 use native.Mathlib.Omega.{arith}
 use Rattle.record.specs.declared.Record.{Record}
 use Rattle.format.specs.Spelling.{recordBytes}
-use Rattle.little.proofs.Digits.{AreBytes}
+use Rattle.little.specs.Bytes.{AreBytes}
 use lib.Dec.{ltb}
 use borrow.Author.Tests.{ltb-false}
 use Rattle.call.specs.Call.{Call}

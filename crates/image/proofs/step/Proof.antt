@@ -4,7 +4,7 @@ use mathlib.Core.List.{List}
 use lib.ListN.{length}
 use denote.Ref.{now}
 use native.Mathlib.Omega.{arith}
-use Rattle.little.proofs.Digits.{AreBytes}
+use Rattle.little.specs.Bytes.{AreBytes}
 use Rattle.call.specs.Call.{Call}
 use Rattle.stages.specs.declared.Access.{Access}
 use Rattle.step.proofs.Cleared.{placeOf}

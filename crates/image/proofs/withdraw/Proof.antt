@@ -6,7 +6,7 @@ use denote.Ref.{now}
 use native.Mathlib.Omega.{arith}
 use Rattle.record.specs.declared.Record.{Record}
 use Rattle.format.specs.Spelling.{recordBytes}
-use Rattle.little.proofs.Digits.{AreBytes}
+use Rattle.little.specs.Bytes.{AreBytes}
 use Rattle.call.specs.Call.{Call}
 use Rattle.header.specs.Header.{versionAt}
 use Rattle.image.proofs.Promised.{keeps-stopped, room, keeps-withdraw-refused, keeps-withdraw-done}
