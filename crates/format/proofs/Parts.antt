@@ -113,3 +113,12 @@ module _ {A : Type 0} (part : Part A) where
       part .same (withParts m next rest) m at (λ i lo hi. below-parts rest m next i hi)
       ∙ part .laid-read l at a (fit 0 (omega arith)) (omega arith) in
       rw (first, laid-parts-read past rest m next (λ i h. fit (suc i) (omega arith)) (omega arith)) refl
+
+  -- Parts laid in bytes leave bytes.
+  pub parts-leave-bytes : (past : A) (all : List A) (l : List ℕ) (at : ℕ) → Every (part .Fits) past all → AreBytes l
+      → AreBytes (withParts l at all)
+  unfolding withParts
+  parts-leave-bytes past [] l at fit are = are
+  parts-leave-bytes past (a ∷ rest) l at fit are =
+      parts-leave-bytes past rest (sets l at (part .bytes a)) (at + part .size) (λ i within. fit (suc i) (omega arith))
+      (part .laid-bytes l at a (fit 0 (omega arith)) are)

@@ -1,14 +1,17 @@
 -- What is known of an image whose header is taken.
 use Prim.Native.Nat.{ℕ}
-use mathlib.Core.Path.{_≡_}
+use mathlib.Core.Path.{_≡_, refl}
 use mathlib.Core.Bool.{true, not, _&&_}
 use mathlib.Core.List.{List}
 use lib.ListN.{length}
 use lib.Dec.{eqb, ltb}
 use borrow.Author.Tests.{eqb-true, not-false}
+use native.Mathlib.Omega.{arith}
 use Rattle.logic.proofs.Bools.{both, passed}
 use Rattle.party.specs.Calls.{maxFits}
 use Rattle.call.specs.Call.{tableFits}
+use Rattle.little.proofs.Runs.{Agree}
+use Rattle.little.proofs.Digits.{same-number}
 use Rattle.header.specs.Header.{isMarked, versionAt, partiesAt, maxAt, countsFit}
 use Rattle.format.specs.Format.{isKnown, lengthOf, sizesFit, headerRefusal}
 
@@ -39,3 +42,11 @@ header-sized image e =
     let past2 = passed (not (isMarked 83 image && isKnown (versionAt image))) 1 _ (past1 .1) in
     let past3 = passed (not (sizesFit (versionAt image) (length image) (maxAt image) (partiesAt image))) 0 0 (past2 .1) in
     sized (versionAt image) (length image) (maxAt image) (partiesAt image) (not-false _ (past3 .0))
+
+-- Whether a header is taken is settled by its 8 bytes and the image's length.
+pub same-header : (image other : List ℕ) → length image ≡ length other → Agree image other 0 8 → headerRefusal image ≡ headerRefusal other
+unfolding headerRefusal
+same-header image other long agree =
+    rw (long, agree 0 (omega arith) (omega arith), agree 1 (omega arith) (omega arith), agree 2 (omega arith) (omega arith),
+    agree 5 (omega arith) (omega arith), same-number 2 image other 3 (λ i lo hi. agree i (omega arith) (omega arith)),
+    same-number 2 image other 6 (λ i lo hi. agree i (omega arith) (omega arith))) refl

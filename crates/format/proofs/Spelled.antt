@@ -15,7 +15,7 @@ use Rattle.format.specs.Format.{wordsBase, wordPlace, lengthOf, recordsI
 use Rattle.format.specs.Spelling.{stripOf, tableOf, recordAt, wordBytes, recordBytes, spelled, RecordFits}
 use Rattle.little.proofs.Runs.{past-a-run}
 use Rattle.little.proofs.Digits.{length-bytes, digits-are-bytes, bytes-stay, same-number}
-use Rattle.format.proofs.Parts.{Part, partsFrom, withParts, length-parts, length-with, below-parts, past-parts, same-parts, read-parts-laid, one-part-laid, part-at, laid-parts-read}
+use Rattle.format.proofs.Parts.{Part, partsFrom, withParts, length-parts, length-with, below-parts, past-parts, same-parts, read-parts-laid, one-part-laid, part-at, laid-parts-read, parts-leave-bytes}
 use Rattle.format.proofs.Words.{wordPart, words-are-parts, words-laid-are-parts}
 use Rattle.format.proofs.Records.{length-record, recordPart, records-are-parts, records-laid-are-parts}
 
@@ -98,6 +98,17 @@ module _ (image strip : List ℕ) (table : List Record) where
       rw (spelled-is image strip table)
       (below-parts (ownPart image) table (wordsSpelled image strip) (recordsIn image) i (omega arith)
       ∙ below-parts wordPart strip image wordsBase i h)
+
+  pub as-long : length (spelled image strip table) ≡ length image
+  as-long =
+      rw (spelled-is image strip table)
+      (length-with (ownPart image) table (wordsSpelled image strip) (recordsIn image) ∙ length-with wordPart strip image wordsBase)
+
+  pub still-bytes : AreBytes image → Every IsWord 0 strip → Every RecordFits idle table → AreBytes (spelled image strip table)
+  still-bytes are words records =
+      rw (spelled-is image strip table)
+      (parts-leave-bytes (ownPart image) idle table (wordsSpelled image strip) (recordsIn image) records
+      (parts-leave-bytes wordPart 0 strip image wordsBase words are))
 
   pub version-kept : versionAt (spelled image strip table) ≡ versionAt image
   version-kept = same-number 2 (spelled image strip table) image 3 (λ i lo hi. header-kept i (omega arith))

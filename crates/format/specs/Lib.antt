@@ -1,4 +1,5 @@
 pub mod Format
 pub mod Spelling
 pub mod Fresh
+pub mod Intact
 pub mod Inside

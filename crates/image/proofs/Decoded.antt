@@ -39,17 +39,17 @@ module _ (image : List ℕ) (are : AreBytes image) (taken : headerRefusal image 
       own-leaves strip (words-fit image are) own
       (fits-anywhere RecordFits idle table (records-fit image are) idle-fits (partyOf call)) call narrow
 
-  spells : imageOf image call .image ≡ spelled image (decoded image call .strip) (decoded image call .table)
+  pub spells : imageOf image call .image ≡ spelled image (decoded image call .strip) (decoded image call .table)
   unfolding imageOf
   spells = rw (taken, spare) refl
 
   -- of the words and records that are left: as many as before, and fitting
-  Left-fits : Left → Type 0
+  abbrev pub Left-fits : Left → Type 0
   Left-fits left =
       (length (left .strip) ≡ length strip) × Every IsWord 0 (left .strip) × (length (left .table) ≡ length table) × Every RecordFits idle (left .table)
 
-  left-fits : Left-fits (decoded image call)
-  unfolding callOf Left-fits
+  pub left-fits : Left-fits (decoded image call)
+  unfolding callOf
   left-fits = whichever Left-fits (eqb (gate (length strip) (length table) call) 0) gone away
     where
       gone : Left-fits (through strip table call)
@@ -64,13 +64,11 @@ module _ (image : List ℕ) (are : AreBytes image) (taken : headerRefusal image 
       away = (refl, words-fit image are, refl, records-fit image are)
 
   pub strip-after-is-decoded : stripOf (imageOf image call .image) ≡ decoded image call .strip
-  unfolding Left-fits
   strip-after-is-decoded =
       rw spells
       (spelled-strip-is-decoded image _ _ (header-sized image taken .exact) (left-fits .0 ∙ strip-length image) (left-fits .2 ∙ table-length image) (left-fits .1))
 
   pub table-after-is-decoded : tableOf (imageOf image call .image) ≡ decoded image call .table
-  unfolding Left-fits
   table-after-is-decoded =
       rw spells
       (spelled-table-is-decoded image _ _ (header-sized image taken .exact) (left-fits .0 ∙ strip-length image) (left-fits .2 ∙ table-length image) (left-fits .3))

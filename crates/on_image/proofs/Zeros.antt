@@ -1,0 +1,54 @@
+-- Records of 32 zero bytes are idle, and their bytes that must be zero are.
+use Prim.Native.Nat.{ℕ, zero, suc, _+_, _*_}
+use mathlib.Core.Path.{_≡_, refl, ap₂}
+use mathlib.Core.List.{List, _∷_}
+use lib.ListN.{getD, replicate}
+use native.Mathlib.Omega.{arith}
+use Rattle.record.specs.Record.{idle}
+use Rattle.record.specs.declared.Record.{Record}
+use Rattle.little.specs.Bytes.{AreBytes, numberAt}
+use Rattle.header.specs.Header.{versionAt, partiesAt}
+use Rattle.format.specs.Format.{headerRefusal, recordsIn, partyPlace}
+use Rattle.format.specs.Spelling.{recordAt, recordsFrom, tableOf}
+use Rattle.format.specs.Intact.{Intact, AllIdle}
+
+-- from a place on every byte is zero
+abbrev ZerosFrom : List ℕ → ℕ → Type 0
+ZerosFrom l at = (i : ℕ) → getD l (at + i) 0 ≡ 0
+
+later : (l : List ℕ) (at more : ℕ) → ZerosFrom l at → ZerosFrom l (at + more)
+later l at more zeros i = let moved : at + more + i ≡ at + (more + i) = omega arith in rw moved (zeros (more + i))
+
+zero-number : (width : ℕ) (l : List ℕ) (at : ℕ) → ZerosFrom l at → numberAt width l at ≡ 0
+unfolding numberAt
+zero-number zero l at zeros = refl
+zero-number (suc width) l at zeros =
+    let here : getD l at 0 ≡ 0 = let same : at + 0 ≡ at = omega arith in rw same at (zeros 0) in
+    omega (arith, here, zero-number width l (at + 1) (later l at 1 zeros))
+
+zero-record : (version : ℕ) (l : List ℕ) (at : ℕ) → ZerosFrom l at → recordAt version l at ≡ idle
+unfolding recordAt
+zero-record version l at zeros =
+    rw (zero-number 2 l (at + 2) (later l at 2 zeros), zero-number 4 l (at + 4) (later l at 4 zeros),
+    zero-number 8 l (at + 8) (later l at 8 zeros), zero-number 8 l (at + 16) (later l at 16 zeros), zeros 1)
+    (let same : at + 0 ≡ at = omega arith in rw (rw same at (zeros 0)) refl)
+
+zero-records : (version count : ℕ) (l : List ℕ) (at : ℕ) → ZerosFrom l at → recordsFrom version l at count ≡ replicate count idle
+unfolding recordsFrom
+zero-records version zero l at zeros = refl
+zero-records version (suc count) l at zeros =
+    ap₂ (λ (r : Record) (rest : List Record). r ∷ rest) (zero-record version l at zeros)
+    (zero-records version count l (at + 32) (later l at 32 zeros))
+
+-- The records of 32 zero bytes each spell idle parties.
+pub all-idle-spells-idle-parties : (image : List ℕ) → AllIdle image → tableOf image ≡ replicate (partiesAt image) idle
+all-idle-spells-idle-parties image zeros = zero-records (versionAt image) (partiesAt image) image (recordsIn image) zeros
+
+pub all-idle-is-intact : (image : List ℕ) → AreBytes image → headerRefusal image ≡ 0 → AllIdle image → Intact image
+all-idle-is-intact image are taken zeros =
+    record {
+      bytes = are;
+      taken = taken;
+      spare = λ party known.
+          rw (zero-number 8 image (partyPlace image party + 24) (later image (partyPlace image party) 24 (later image (recordsIn image) (32 * party) zeros))) refl;
+    }

@@ -1,0 +1,33 @@
+-- A run on an image: calls one after the other, each on the bytes that the one before left.
+use Prim.Native.Nat.{ℕ}
+use mathlib.Core.Path.{_≡_}
+use mathlib.Core.List.{List, [], _∷_, map}
+use Rattle.party.specs.Answer.{numberOf, carriedOf}
+use Rattle.party.specs.declared.Answer.{Answer}
+use Rattle.call.specs.Call.{Call}
+use Rattle.header.specs.Header.{partiesAt}
+use Rattle.format.specs.Spelling.{stripOf, tableOf}
+use Rattle.format.specs.Intact.{Intact}
+use Rattle.image.specs.Calls.{imageOf}
+use Rattle.history.specs.Run.{State, Line, begin, linesFrom, endFrom}
+
+-- what each is answered, and the bytes after the last
+unfoldable pub answersOn : (image : List ℕ) → List Call → List Answer
+answersOn image [] = []
+answersOn image (call ∷ calls) = imageOf image call .answer ∷ answersOn (imageOf image call .image) calls
+
+unfoldable pub imageAfter : (image : List ℕ) → List Call → List ℕ
+imageAfter image [] = image
+imageAfter image (call ∷ calls) = imageAfter (imageOf image call .image) calls
+
+-- the strip that an image spells, with every party idle
+abbrev pub firstOn : (image : List ℕ) → State
+firstOn image = begin (stripOf image) (partiesAt image)
+
+-- The calls on an image answer what they answer in a run from the state s, and leave what it leaves, spelled in an intact image.
+pub record RunsAs (s : State) (entry : ℕ) (image : List ℕ) (calls : List Call) : Type 0 where
+  pub numbers : map numberOf (answersOn image calls) ≡ map (λ (line : Line). line .number) (linesFrom s entry calls)
+  pub carried : map carriedOf (answersOn image calls) ≡ map (λ (line : Line). line .carried) (linesFrom s entry calls)
+  pub strip : stripOf (imageAfter image calls) ≡ endFrom s entry calls .strip
+  pub table : tableOf (imageAfter image calls) ≡ endFrom s entry calls .table
+  pub intact : Intact (imageAfter image calls)
