@@ -1,2 +1,3 @@
 pub mod Zeros
 pub mod Kept
+pub mod EveryRun
