@@ -1,3 +1,4 @@
 pub mod Zeros
 pub mod Kept
 pub mod EveryRun
+pub mod Fresh
