@@ -1,6 +1,6 @@
 -- Figure 1 for the left side: seen in the mirror, a left step is the figure's line.
 use Prim.Native.Nat.{ℕ, _<_}
-use mathlib.Core.Path.{_≡_, refl, sym, _∙_, ap}
+use mathlib.Core.Path.{_≡_, refl, sym, _∙_}
 use mathlib.Core.Bool.{true, false, true≢false}
 use mathlib.Core.List.{List}
 use mathlib.Core.Logic.{_⊎_, inl, inr}
@@ -17,7 +17,8 @@ use Rattle.step.specs.Step.{maxOf, stepOf}
 use Rattle.step.proofs.Went.{Went, went}
 use Rattle.figure.specs.Reading.{IsTheLine}
 use Rattle.figure.proofs.Lines.{each-step-is-the-figures-line}
-use Rattle.mirror.specs.Mirror.{mirrorStrip, mirrorPlace, mirrorOperation, mirrorRecord, mirrorAnswer}
+use Rattle.mirror.specs.Mirror.{mirrorStrip, mirrorPlace, mirrorOperation, mirrorRecord, mirrorAnswer, StepMirrors, IsTheMirroredLine}
+use Rattle.mirror.proofs.Strips.{length-mirror}
 use Rattle.mirror.proofs.Left.{a-left-step-is-the-mirrored-right-step}
 
 same-number : (answer : Answer) → numberOf (mirrorAnswer answer) ≡ numberOf answer
@@ -47,10 +48,16 @@ busy-goes strip r hint goes = go (went strip r hint)
 -- Demand 2 for the left: a left step that is not refused is, in the mirror, the line of figure 1 that its record stands before.
 pub each-left-step-is-the-mirrored-line : (strip : List ℕ) (r : Record) (hint : ℕ) → (r .operation ≡ 2) ⊎ (r .operation ≡ 3)
     → r .v < 4294967296 → isRefusal (numberOf (stepOf strip r hint .answer)) ≡ false
-    → IsTheLine (mirrorStrip strip) (mirrorRecord (maxOf (length strip)) r) (mirrorPlace (maxOf (length strip)) hint)
-each-left-step-is-the-mirrored-line strip r hint left below goes =
-    let max = maxOf (length strip) in
-    let step = a-left-step-is-the-mirrored-right-step strip r hint left below in
-    let number = ap numberOf (step .answer) ∙ same-number (stepOf strip r hint .answer) in
-    each-step-is-the-figures-line (mirrorStrip strip) (mirrorRecord max r) (mirrorPlace max hint)
-    (to-the-right max r left (busy-goes strip r hint goes)) below (ap isRefusal number ∙ goes)
+    → IsTheMirroredLine strip r hint
+each-left-step-is-the-mirrored-line strip r hint left below goes = rw (length-mirror strip, step .answered, step .words) at line
+  where
+    max : ℕ
+    max = maxOf (length strip)
+
+    step : StepMirrors strip r hint
+    step = a-left-step-is-the-mirrored-right-step strip r hint left below
+
+    line : IsTheLine (mirrorStrip strip) (mirrorRecord max r) (mirrorPlace max hint)
+    line =
+        each-step-is-the-figures-line (mirrorStrip strip) (mirrorRecord max r) (mirrorPlace max hint)
+        (to-the-right max r left (busy-goes strip r hint goes)) below (rw (step .answered, same-number (stepOf strip r hint .answer)) goes)

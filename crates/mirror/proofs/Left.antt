@@ -14,7 +14,7 @@ use Rattle.word.specs.Word.{valueOf, counterOf, raisedTo, lastCounter, LN, RN}
 use Rattle.word.specs.Swap.{swapOf, wordsAfter}
 use Rattle.record.specs.Record.{again, atStage, withOperation}
 use Rattle.record.specs.Valid.{placeFits}
-use Rattle.party.specs.Answer.{refused}
+use Rattle.party.specs.Answer.{goingOn, ends, refused}
 use Rattle.record.specs.declared.Record.{Record}
 use Rattle.party.specs.declared.Answered.{Answered}
 use Rattle.party.specs.declared.Answer.the-variants.{Popped}
@@ -27,15 +27,14 @@ use Rattle.word.specs.declared.Swapped.{Swapped}
 use Rattle.word.specs.declared.Swapped.the-variants.{Won, Lost, Stuck}
 use Rattle.step.proofs.Cleared.{Steppable, steppable, strip-within}
 use Rattle.record.proofs.Stages.{stage-3-fits, stage-5-fits}
-use Rattle.mirror.specs.Mirror.{mirrorWord, mirrorStrip, mirrorPlace, mirrorRecord, mirrorAnswer, Mirrors, StepMirrors}
+use Rattle.mirror.specs.Mirror.{mirrorWord, mirrorStrip, mirrorPlace, mirrorRecord, mirrorAnswered, Mirrors, StepMirrors}
 use Rattle.mirror.proofs.Words.{order-stays, mirror-value, mirror-counter, mirror-same, mirror-is-RN, mirror-is-LN, mirror-raised}
 use Rattle.mirror.proofs.Strips.{length-mirror, mirror-at, mirror-set}
 use Rattle.mirror.proofs.Refusals.{wall-mirrors, by-stage, past-is-invalid, push-refused-alike, pop-refused-alike}
 
 -- what computes to its mirror
-mirrored : {max : ℕ} {given : Answered} {left : List ℕ}
-    → Mirrors max given left (record { answer = mirrorAnswer (given .answer); rec = mirrorRecord max (given .rec) }) (mirrorStrip left)
-mirrored = record { answer = refl; rec = refl; words = refl }
+mirrored : {max : ℕ} {given : Answered} {left : List ℕ} → Mirrors max given left (mirrorAnswered max given) (mirrorStrip left)
+mirrored = record { answered = refl; words = refl }
 
 -- where both go the same way by one test
 either : {max : ℕ} {left left′ : List ℕ} (test : Bool) {x y x′ y′ : Answered} → Mirrors max x left x′ left′ → Mirrors max y left y′ left′
@@ -103,9 +102,9 @@ swap-mirrors strip i j from to to′ r r′ then across raised won same lost =
         → Mirrors (maxOf (length strip)) (swappedOf r then (goes whole ended met)) (wordsAfter (goes whole ended met) strip i (raisedTo from to))
         (swappedOf r′ then (goes whole ended (mirrorWord met)))
         (wordsAfter (goes whole ended (mirrorWord met)) (mirrorStrip strip) j (mirrorWord (raisedTo from to)))
-    go true true = record { answer = refl; rec = same; words = refl }
-    go true false = record { answer = won .answer; rec = won .rec; words = mirror-set strip i j (raisedTo from to) across }
-    go false ended = record { answer = refl; rec = lost; words = refl }
+    go true true = record { answered = ap (refused 9) same; words = refl }
+    go true false = record { answered = won .answered; words = mirror-set strip i j (raisedTo from to) across }
+    go false ended = record { answered = ap goingOn lost; words = refl }
 
 module _ (strip : List ℕ) (hint : ℕ) (r : Record) where
   abbrev max : ℕ
@@ -176,7 +175,7 @@ module _ (strip : List ℕ) (hint : ℕ) (r : Record) where
     pop-5 =
         swap-mirrors strip (r .k + 1) (mirrorPlace max (r .k) - 1) (r .first) LN RN (pop 5) (mirrorRecord max (pop 5)) Pop (omega arith)
         (mirror-raised (r .first) LN (omega arith))
-        (record { answer = ap Popped (mirror-value (r .first)); rec = refl; words = refl }) refl refl
+        (record { answered = ap (λ (order : ℕ). ends (Popped order)) (mirror-value (r .first)); words = refl }) refl refl
 
   -- a place in range on the left, and its neighbour, lie inside the strip
   within : (place : ℕ) → stripFits (length strip) ≡ true → leb place max ≡ true → place + 2 ≤ length strip

@@ -12,6 +12,8 @@ use Rattle.party.specs.declared.Answer.{Answer}
 use Rattle.party.specs.declared.Answer.the-variants.{GoesOn, Pushed, Popped, Full, Empty, Refused}
 use Rattle.party.specs.declared.Answered.{Answered}
 use Rattle.step.specs.Step.{maxOf, stepOf, stepLeaves}
+use Rattle.figure.specs.Figure.{run}
+use Rattle.figure.specs.Reading.{elements, lineAt, Matches}
 
 -- LN and RN are exchanged, every other value stays
 abbrev pub mirrorValue : (value : ℕ) → ℕ
@@ -49,10 +51,13 @@ mirrorAnswer Full = Full
 mirrorAnswer Empty = Empty
 mirrorAnswer (Refused number) = Refused number
 
+-- what a call gives: the answer and the record
+abbrev pub mirrorAnswered : (max : ℕ) → Answered → Answered
+mirrorAnswered max given = record { answer = mirrorAnswer (given .answer); rec = mirrorRecord max (given .rec) }
+
 -- what a call gave and left on the mirrored side is the mirror of what it gave and left
 pub record Mirrors (max : ℕ) (given : Answered) (left : List ℕ) (given′ : Answered) (left′ : List ℕ) : Type 0 where
-  pub answer : given′ .answer ≡ mirrorAnswer (given .answer)
-  pub rec : given′ .rec ≡ mirrorRecord max (given .rec)
+  pub answered : given′ ≡ mirrorAnswered max given
   pub words : left′ ≡ mirrorStrip left
 
 -- The step on the mirrored strip, of the mirrored record with the mirrored hint, mirrors the step.
@@ -63,3 +68,11 @@ StepMirrors strip r hint =
     let hint′ = mirrorPlace max hint in
     Mirrors max (stepOf strip r hint) (stepLeaves strip r hint)
     (stepOf (mirrorStrip strip) r′ hint′) (stepLeaves (mirrorStrip strip) r′ hint′)
+
+-- A step is, in the mirror, the line that its mirrored record stands before: run on the mirrored strip, the line leaves the mirror of
+-- what the step leaves, and leads to the line of the mirror of what it gives, or returns its answer.
+abbrev pub IsTheMirroredLine : List ℕ → Record → (hint : ℕ) → Type 0
+IsTheMirroredLine strip r hint =
+    let max = maxOf (length strip) in
+    Matches (run max (elements (mirrorStrip strip)) (lineAt (mirrorRecord max r) (mirrorPlace max hint)))
+    (mirrorAnswered max (stepOf strip r hint)) (mirrorStrip (stepLeaves strip r hint))
