@@ -1,2 +1,3 @@
 pub mod Called
 pub mod Calls
+pub mod Bounds

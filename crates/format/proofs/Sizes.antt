@@ -1,4 +1,4 @@
--- What is known of an image whose header is taken.
+-- What is known of a header: its checks end at 0 or at a refusal; and of an image whose header is taken.
 use Prim.Native.Nat.{ℕ}
 use mathlib.Core.Path.{_≡_, refl}
 use mathlib.Core.Bool.{true, not, _&&_}
@@ -7,13 +7,21 @@ use lib.ListN.{length}
 use lib.Dec.{eqb, ltb}
 use borrow.Author.Tests.{eqb-true, not-false}
 use native.Mathlib.Omega.{arith}
-use Rattle.logic.proofs.Bools.{both, passed}
+use Rattle.logic.proofs.Bools.{both, passed, whichever}
 use Rattle.party.specs.Calls.{maxFits}
+use Rattle.party.proofs.Refusals.{Checked}
 use Rattle.call.specs.Call.{tableFits}
 use Rattle.little.proofs.Runs.{Agree}
 use Rattle.little.proofs.Digits.{same-number}
 use Rattle.header.specs.Header.{isMarked, versionAt, partiesAt, maxAt, countsFit}
 use Rattle.format.specs.Format.{isKnown, lengthOf, sizesFit, headerRefusal}
+
+pub header-checked : (image : List ℕ) → Checked (headerRefusal image)
+unfolding headerRefusal
+header-checked image =
+    whichever Checked (ltb (length image) 8) (Checked.some refl)
+    (whichever Checked (not (isMarked 83 image && isKnown (versionAt image))) (Checked.some refl)
+    (whichever Checked (not (sizesFit (versionAt image) (length image) (maxAt image) (partiesAt image))) (Checked.some refl) (Checked.none refl)))
 
 pub record Sized (version bytes max parties : ℕ) : Type 0 where
   pub max-fits : maxFits max ≡ true

@@ -1,19 +1,23 @@
--- What the calls on an image keep: a promise leaves nothing open, and a refused call changes no byte.
-use Prim.Native.Nat.{ℕ}
+-- What the calls on an image keep: a promise leaves nothing open, a refused call changes no byte, and every number is at most 19.
+use Prim.Native.Nat.{ℕ, _≤_}
 use mathlib.Core.Path.{_≡_, refl, sym, _∙_}
 use mathlib.Core.Bool.{true, not, true≢false}
 use mathlib.Core.List.{List}
 use lib.ListN.{length}
-use lib.Dec.{eqb}
+use lib.Dec.{eqb, leb}
+use native.Mathlib.Omega.{arith}
 use Rattle.logic.proofs.Bools.{whichever}
 use Rattle.party.specs.Answer.{isRefusal, numberOf, carriedOf}
 use Rattle.party.specs.declared.Answer.{Answer}
+use Rattle.party.proofs.Refusals.{Checked, checked-is-small}
 use Rattle.call.specs.Call.{Call}
 use Rattle.call.proofs.Calls.{refused-call-changes-nothing}
-use Rattle.format.specs.Format.{headerRefusal}
+use Rattle.call.proofs.Bounds.{no-answer-is-above-19}
+use Rattle.format.specs.Format.{sizesFit, headerRefusal}
 use Rattle.format.specs.Spelling.{stripOf, tableOf}
 use Rattle.image.specs.Calls.{Done, spareRefused, imageOf, layRefusal, layOf, ImagePromise}
 use Rattle.little.specs.Bytes.{AreBytes}
+use Rattle.format.proofs.Sizes.{header-checked}
 use Rattle.format.proofs.Spelled.{decoded-is-spelled}
 
 -- Two results that keep one promise are the same answer and the same bytes.
@@ -40,3 +44,25 @@ unfolding layOf
 refused-lay-changes-nothing image max parties divide =
     whichever (RefusedLeaves image) (eqb (layRefusal (length image) max parties divide) 0)
     (λ h. absurd (true≢false (sym h))) (λ h. (refl, refl))
+
+pub lay-checked : (bytes max parties divide : ℕ) → Checked (layRefusal bytes max parties divide)
+unfolding layRefusal
+lay-checked bytes max parties divide =
+    whichever Checked (not (sizesFit 1 bytes max parties)) (Checked.some refl)
+    (whichever Checked (not (leb divide max)) (Checked.some refl) (Checked.none refl))
+
+abbrev Small : Done → Type 0
+Small done = numberOf (done .answer) ≤ 19
+
+pub no-image-answer-is-above-19 : (image : List ℕ) (call : Call) → numberOf (imageOf image call .answer) ≤ 19
+unfolding imageOf
+no-image-answer-is-above-19 image call =
+    let header = checked-is-small (header-checked image) in
+    whichever Small (not (eqb (headerRefusal image) 0)) (omega arith)
+    (whichever Small (spareRefused image call) (omega arith) (no-answer-is-above-19 (stripOf image) (tableOf image) call))
+
+pub no-lay-answer-is-above-19 : (image : List ℕ) (max parties divide : ℕ) → numberOf (layOf image max parties divide .answer) ≤ 19
+unfolding layOf
+no-lay-answer-is-above-19 image max parties divide =
+    let number = checked-is-small (lay-checked (length image) max parties divide) in
+    whichever Small (eqb (layRefusal (length image) max parties divide) 0) (omega arith) (omega arith)

@@ -15,11 +15,12 @@ use Rattle.text.proofs.Lengths.{digits-within, digits-most}
 use Rattle.word.specs.Word.{valueOf, counterOf}
 use Rattle.party.specs.Answer.{numberOf}
 use Rattle.call.specs.Call.{Call, partyOf, callOf}
+use Rattle.call.proofs.Bounds.{no-answer-is-above-19}
 use Rattle.strip.proofs.Laying.{fresh-length}
+use Rattle.invariant.proofs.Writes.{strip-stays-as-long}
 use Rattle.history.specs.Run.{State, Line, noCall, looked, lineOf, leaves, linesFrom, endFrom}
 use Rattle.history.specs.Finished.{isResult}
 use Rattle.listing.specs.Listing.{effectText, lineText, linesText, runText, headerText, wordsText, cellsText, firstState, listingText, longest}
-use Rattle.listing.proofs.Bounds.{call-bounded}
 
 effect-length : (line : Line) → line .effect < 2048 → length (effectText line) ≤ 4
 effect-length line h =
@@ -76,7 +77,7 @@ run-length : (calls : List Call) (entry : ℕ) (s : State) → Every Narrow noCa
 unfolding linesText linesFrom endFrom lineOf leaves
 run-length [] entry s narrow early fits = (omega arith, refl)
 run-length (call ∷ calls) entry s narrow early fits =
-    let bounded = call-bounded (s .strip) (s .table) call in
+    let small = no-answer-is-above-19 (s .strip) (s .table) call in
     let look = look-early (s .looks) (partyOf call) early in
     let number = numberOf (callOf (s .strip) (s .table) call .answer) in
     let line = lineOf s entry call in
@@ -84,8 +85,8 @@ run-length (call ∷ calls) entry s narrow early fits =
     let later = whichever (Every Early 0) (looked s call number) {a = set (s .looks) (partyOf call) entry} {b = s .looks}
     (every-set Early 0 (s .looks) (partyOf call) entry early (omega arith)) early in
     let rest = run-length calls (suc entry) (leaves s entry call) (λ i within. narrow (suc i) (omega arith)) later (omega arith) in
-    let here = line-length entry call line (omega arith) (narrow 0 (omega arith)) (bounded .0) effect in
-    (omega (arith, length-append (lineText entry call line) (runText (leaves s entry call) (suc entry) calls)), rest .1 ∙ bounded .1)
+    let here = line-length entry call line (omega arith) (narrow 0 (omega arith)) small effect in
+    (omega (arith, length-append (lineText entry call line) (runText (leaves s entry call) (suc entry) calls)), rest .1 ∙ strip-stays-as-long (s .strip) (s .table) call)
 
 pub no-listing-is-longer : (max divide parties : ℕ) (calls : List Call) → max ≤ 4094 → divide ≤ max → parties ≤ 16 → length calls ≤ 2048
     → Every Narrow noCall calls → length (listingText max divide parties calls) ≤ longest
