@@ -103,7 +103,7 @@ module _ (version max parties divide : ℕ) (known : isKnown version ≡ true) (
       (bytes-append (bytesOf 2 version) counts (digits-are-bytes 2 version)
       (byte-before parties (bytesOf 2 max) (omega (arith, few)) (digits-are-bytes 2 max)))))
 
-  fresh-bytes : AreBytes image
+  pub fresh-bytes : AreBytes image
   fresh-bytes =
       bytes-append header (words ++ zeros) header-are-bytes
       (bytes-append words zeros (words-are-bytes (freshStrip max divide)) (λ i. rw (all-the-same {A = ℕ} (32 * parties) i 0) (omega arith)))

@@ -1,0 +1,98 @@
+-- Demand 3 of the C calls: what pds_start, pds_step and pds_withdraw answer, one after the other on one region of bytes, is explained
+-- by the plain strip; and so it is on what pds_lay left.
+use Prim.Native.Nat.{ℕ, suc, _≤_}
+use mathlib.Core.Path.{_≡_, refl, sym, _∙_, ap, ap₂, subst}
+use mathlib.Core.Bool.{true, not}
+use mathlib.Core.List.{List, [], _∷_, map}
+use lib.ListN.{length, getD, drop}
+use lib.Dec.{eqb, leb}
+use borrow.Author.Tests.{leb-true, not-false}
+use native.Mathlib.Omega.{arith}
+use Rattle.logic.specs.Every.{Every}
+use Rattle.logic.proofs.Bools.{both, passed}
+use Rattle.party.specs.Answer.{numberOf, carriedOf}
+use Rattle.call.specs.Call.{Call, Fitting}
+use Rattle.plain.specs.Plain.{Plain, freshPlain}
+use Rattle.strip.specs.Shape.{StandsFor}
+use Rattle.strip.proofs.Values.{fresh-stands-for}
+use Rattle.little.specs.Bytes.{AreBytes, bytesOf}
+use Rattle.header.specs.Header.{partiesAt, countsFit}
+use Rattle.format.specs.Format.{headerRefusal, lengthOf, sizesFit}
+use Rattle.format.specs.Spelling.{stripOf}
+use Rattle.format.specs.Intact.{AllIdle}
+use Rattle.format.specs.Fresh.{freshImage}
+use Rattle.image.specs.Calls.{imageOf, layOf}
+use Rattle.history.specs.Run.{State, Line, linesFrom, noCall}
+use Rattle.history.specs.Finished.{finishedOf}
+use Rattle.history.specs.Explained.{Explained}
+use Rattle.pds.specs.Packed.{PackedPromise}
+use Rattle.pds.proofs.Unpacked.{a-packed-answer-tells-its-number-and-order}
+use Rattle.on_image.specs.Run.{answersOn, imageAfter, firstOn}
+use Rattle.on_image.specs.Packed.{InTurn, linesTold, effectsOn}
+use Rattle.on_image.proofs.Fresh.{fresh-is-taken, fresh-is-idle, fresh-bytes, fresh-spells-fresh}
+use Rattle.on_image.proofs.Laid.{what-lay-leaves-is-fresh, what-lay-takes-fits, pds-lay-was-not-refused}
+use Rattle.on_image.proofs.EveryRun.{every-run-on-an-image-is-explained}
+
+-- calls in turn are a run on the image
+in-turn-ends : (calls : List Call) (image answers last : List ℕ) → InTurn image calls answers last → last ≡ imageAfter image calls
+unfolding imageAfter
+in-turn-ends [] image [] last same = same
+in-turn-ends [] image (answer ∷ answers) last none = absurd none
+in-turn-ends (call ∷ calls) image [] last none = absurd none
+in-turn-ends (call ∷ calls) image (answer ∷ answers) last turn =
+    in-turn-ends calls (turn .0) answers last (turn .2) ∙ ap (λ (next : List ℕ). imageAfter next calls) (turn .1 .bytes)
+
+-- and what they tell, beside the effects of lines that say the same, are those lines
+in-turn-tells : (calls : List Call) (lines : List Line) (image answers last : List ℕ) → InTurn image calls answers last
+    → map numberOf (answersOn image calls) ≡ map (λ (line : Line). line .number) lines
+    → map carriedOf (answersOn image calls) ≡ map (λ (line : Line). line .carried) lines
+    → linesTold answers (map (λ (line : Line). line .effect) lines) ≡ lines
+unfolding answersOn linesTold
+in-turn-tells [] [] image [] last turn numbers carried = refl
+in-turn-tells [] (line ∷ lines) image [] last turn numbers carried = absurd (omega (arith, ap (length {A = ℕ}) numbers))
+in-turn-tells [] lines image (answer ∷ answers) last none numbers carried = absurd none
+in-turn-tells (call ∷ calls) lines image [] last none numbers carried = absurd none
+in-turn-tells (call ∷ calls) [] image (answer ∷ answers) last turn numbers carried = absurd (omega (arith, ap (length {A = ℕ}) numbers))
+in-turn-tells (call ∷ calls) (line ∷ lines) image (answer ∷ answers) last turn numbers carried =
+    let told = a-packed-answer-tells-its-number-and-order image call answer (turn .0) (turn .1) in
+    let first : List ℕ → ℕ = λ l. getD l 0 0 in
+    let rest = subst (λ (next : List ℕ). InTurn next calls answers last) (turn .1 .bytes) (turn .2) in
+    let later = in-turn-tells calls lines (imageOf image call .image) answers last rest (ap (drop 1) numbers) (ap (drop 1) carried) in
+    rw (told .0, told .1, later, ap first numbers, ap first carried) refl
+
+-- Demand 3 of the C calls.
+module _ (image : List ℕ) (p : Plain) (calls : List Call) (are : AreBytes image) (taken : headerRefusal image ≡ 0) (idle : AllIdle image)
+    (stands : StandsFor (stripOf image) p) (fitting : Every Fitting noCall calls) (answers last : List ℕ)
+    (turn : InTurn image calls answers last) where
+  pub every-run-of-C-calls-is-explained :
+      (q : Plain) × StandsFor (stripOf last) q
+      × Explained p (finishedOf (partiesAt image) calls (linesTold answers (effectsOn image calls))) (length calls) q
+  every-run-of-C-calls-is-explained =
+      let run = every-run-on-an-image-is-explained image p calls are taken idle stands fitting in
+      let lines = in-turn-tells calls (linesFrom (firstOn image) 0 calls) image answers last turn (run .0 .numbers) (run .0 .carried) in
+      (run .1, rw (in-turn-ends calls image answers last turn) (run .2), rw lines (run .3))
+
+-- What pds_lay leaves where it answers 0 is such an image, with a fresh strip of the divide that it was given.
+module _ (max parties divide : ℕ) (calls : List Call) (fitting : Every Fitting noCall calls) (answers last : List ℕ) where
+  abbrev pub ExplainedOn : (image : List ℕ) → Type 0
+  ExplainedOn image =
+      (q : Plain) × StandsFor (stripOf last) q
+      × Explained (freshPlain max divide) (finishedOf parties calls (linesTold answers (effectsOn image calls))) (length calls) q
+
+  on-a-fresh-image : countsFit max parties ≡ true → divide ≤ max → InTurn (freshImage 1 max parties divide) calls answers last
+      → ExplainedOn (freshImage 1 max parties divide)
+  unfolding bytesOf
+  on-a-fresh-image fit inside turn =
+      let image = freshImage 1 max parties divide in
+      let stands : StandsFor (stripOf image) (freshPlain max divide) =
+      rw (fresh-spells-fresh 1 max parties divide refl fit inside) (fresh-stands-for max divide) in
+      every-run-of-C-calls-is-explained image (freshPlain max divide) calls (fresh-bytes 1 max parties divide refl fit inside)
+      (fresh-is-taken 1 max parties divide refl fit inside) (fresh-is-idle 1 max parties divide refl fit inside) stands fitting answers last turn
+
+  pub every-run-of-C-calls-after-pds-lay-is-explained : (bytes image : List ℕ) → PackedPromise (layOf bytes max parties divide) 0 image
+      → InTurn image calls answers last → ExplainedOn image
+  every-run-of-C-calls-after-pds-lay-is-explained bytes image laid =
+      let none = pds-lay-was-not-refused bytes max parties divide image laid in
+      let fits = what-lay-takes-fits bytes max parties divide none in
+      let is = laid .bytes ∙ what-lay-leaves-is-fresh bytes max parties divide none in
+      rw is (on-a-fresh-image (fits .0) (fits .1))

@@ -1,0 +1,28 @@
+-- The same run as C sees it: pds_start, pds_step and pds_withdraw one after the other on one region of bytes.
+use Prim.Native.Nat.{ℕ}
+use mathlib.Core.Path.{_≡_}
+use mathlib.Core.List.{List, [], _∷_, map}
+use Rattle.call.specs.Call.{Call}
+use Rattle.image.specs.Calls.{imageOf}
+use Rattle.pds.specs.Packed.{pdsNumber, pdsOrder, PackedPromise}
+use Rattle.history.specs.Run.{Line, linesFrom}
+use Rattle.on_image.specs.Run.{firstOn}
+
+-- each keeps its promise on the bytes that the one before left: these are the answers, and the bytes after the last
+abbrev pub InTurn : (image : List ℕ) → List Call → (answers last : List ℕ) → Type 0
+InTurn image [] [] last = last ≡ image
+InTurn image [] (answer ∷ answers) last = ⊥
+InTurn image (call ∷ calls) [] last = ⊥
+InTurn image (call ∷ calls) (answer ∷ answers) last =
+    (next : List ℕ) × PackedPromise (imageOf image call) answer next × InTurn next calls answers last
+
+-- the lines of a run: what pds_number and pds_order read in each answer, and where it took effect
+unfoldable pub linesTold : (answers effects : List ℕ) → List Line
+linesTold [] effects = []
+linesTold (answer ∷ answers) [] = []
+linesTold (answer ∷ answers) (effect ∷ effects) =
+    record { number = pdsNumber answer; carried = pdsOrder answer; effect = effect } ∷ linesTold answers effects
+
+-- where each took effect, in the run of the strip that the image spells
+abbrev pub effectsOn : (image : List ℕ) → List Call → List ℕ
+effectsOn image calls = map (λ (line : Line). line .effect) (linesFrom (firstOn image) 0 calls)
