@@ -4,14 +4,14 @@ use mathlib.Core.Path.{_≡_, refl}
 use mathlib.Core.List.{List, [], _∷_}
 use native.Mathlib.Omega.{arith}
 use Rattle.logic.specs.Total.{total}
-use Rattle.plain.specs.Plain.{Plain}
+use Rattle.plain.specs.Plain.{Plain, freshPlain}
 use Rattle.plain.specs.Accounts.{held, accepts, takes}
 use Rattle.plain.proofs.Accounts.{each-accounts}
 use Rattle.placing.specs.Placing.{inOrder, Plays}
 use Rattle.placing.proofs.Totals.{none-is-left-out}
 use Rattle.history.specs.Finished.{Finished}
 use Rattle.history.specs.Explained.{Agrees, Explained, none}
-use Rattle.history.specs.Accounts.{accepted, taken}
+use Rattle.history.specs.Accounts.{accepted, taken, Closed}
 
 pub what-plays-accounts : (order : ℕ) (fs : List Finished) (p q : Plain) → Plays Agrees p fs q
     → held order p + accepted order fs ≡ held order q + taken order fs
@@ -41,3 +41,11 @@ module _ {first last : Plain} {finished : List Finished} {entries : ℕ} (explai
   pub no-other-order-appears : (order : ℕ) → held order first ≡ 0 → accepted order finished ≡ 0
       → (held order last ≡ 0) × (taken order finished ≡ 0)
   no-other-order-appears order unheld unaccepted = omega (arith, accepted-is-held-or-taken order)
+
+-- A fresh strip holds none, so from there each account is closed.
+pub from-fresh-each-account-is-closed : (max divide : ℕ) {finished : List Finished} {entries : ℕ} {last : Plain}
+    → Explained (freshPlain max divide) finished entries last → (order : ℕ) → Closed order last finished
+unfolding total
+from-fresh-each-account-is-closed max divide explained order =
+    let balanced = accepted-is-held-or-taken explained order in
+    record { balanced = omega arith; none-made-up = no-other-order-appears explained order refl }

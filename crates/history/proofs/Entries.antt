@@ -1,4 +1,4 @@
--- A run entry by entry: the state before each entry, what each party was last asked before it, and what it finishes.
+-- A run entry by entry: what each party was last asked before it, and what it finishes.
 use Prim.Native.Nat.{ℕ, zero, suc, _+_}
 use mathlib.Core.Path.{_≡_, sym, _∙_, ap}
 use mathlib.Core.List.{List, [], _∷_, _++_, append-assoc, append-nil}
@@ -7,12 +7,12 @@ use lib.ListN.{length, getD, replicate}
 use Rattle.call.specs.Call.{Call}
 use Rattle.placing.specs.Placing.{gathered}
 use Rattle.history.specs.Run.{State, lineOf, leaves, linesFrom, endFrom, begin, noCall}
+use Rattle.history.specs.Entries.{stateAt}
 use Rattle.history.specs.Finished.{Asked, Finished, nothingYet, askedAfter, finishedAt, finishedFrom, finishedOf}
 
 module _ (first : State) (call : ℕ → Call) where
-  unfoldable pub stateAt : (n : ℕ) → State
-  stateAt zero = first
-  stateAt (suc n) = leaves (stateAt n) n (call n)
+  abbrev at : (n : ℕ) → State
+  at n = stateAt first call n
 
   -- the rest of the calls from entry n on
   abbrev Rest : (n : ℕ) → List Call → Type 0
@@ -25,31 +25,31 @@ module _ (first : State) (call : ℕ → Call) where
   past-next : (n : ℕ) (cs : List Call) → suc n + length cs ≡ n + suc (length cs)
   past-next n cs = suc-add n (length cs) ∙ sym (add-suc n (length cs))
 
-  pub ends-at : (n : ℕ) (rest : List Call) → Rest n rest → endFrom (stateAt n) n rest ≡ stateAt (n + length rest)
+  pub ends-at : (n : ℕ) (rest : List Call) → Rest n rest → endFrom (at n) n rest ≡ at (n + length rest)
   unfolding stateAt endFrom
-  ends-at n [] same = ap stateAt (sym (add-zero n))
+  ends-at n [] same = ap at (sym (add-zero n))
   ends-at n (c ∷ cs) same =
       let next = next-rest n c cs same in
-      ap (λ (x : Call). endFrom (leaves (stateAt n) n x) (suc n) cs) (next .0)
+      ap (λ (x : Call). endFrom (leaves (at n) n x) (suc n) cs) (next .0)
       ∙ ends-at (suc n) cs (next .1)
-      ∙ ap stateAt (past-next n cs)
+      ∙ ap at (past-next n cs)
 
   module _ (unasked : List Asked) where
     unfoldable pub askedAt : (n : ℕ) → List Asked
     askedAt zero = unasked
-    askedAt (suc n) = askedAfter (askedAt n) n (call n) (lineOf (stateAt n) n (call n))
+    askedAt (suc n) = askedAfter (askedAt n) n (call n) (lineOf (at n) n (call n))
 
     abbrev pub addedAt : (n : ℕ) → List Finished
-    addedAt n = finishedAt (askedAt n) n (call n) (lineOf (stateAt n) n (call n))
+    addedAt n = finishedAt (askedAt n) n (call n) (lineOf (at n) n (call n))
 
     pub finished-by : (n : ℕ) (rest : List Call) → Rest n rest
-        → gathered addedAt n ++ finishedFrom (askedAt n) n rest (linesFrom (stateAt n) n rest) ≡ gathered addedAt (n + length rest)
+        → gathered addedAt n ++ finishedFrom (askedAt n) n rest (linesFrom (at n) n rest) ≡ gathered addedAt (n + length rest)
     unfolding stateAt askedAt linesFrom finishedFrom gathered
     finished-by n [] same = append-nil (gathered addedAt n) ∙ ap (gathered addedAt) (sym (add-zero n))
     finished-by n (c ∷ cs) same =
         let next = next-rest n c cs same in
-        ap (λ (x : Call). gathered addedAt n ++ finishedFrom (askedAt n) n (x ∷ cs) (linesFrom (stateAt n) n (x ∷ cs))) (next .0)
-        ∙ sym (append-assoc (gathered addedAt n) (addedAt n) (finishedFrom (askedAt (suc n)) (suc n) cs (linesFrom (stateAt (suc n)) (suc n) cs)))
+        ap (λ (x : Call). gathered addedAt n ++ finishedFrom (askedAt n) n (x ∷ cs) (linesFrom (at n) n (x ∷ cs))) (next .0)
+        ∙ sym (append-assoc (gathered addedAt n) (addedAt n) (finishedFrom (askedAt (suc n)) (suc n) cs (linesFrom (at (suc n)) (suc n) cs)))
         ∙ finished-by (suc n) cs (next .1)
         ∙ ap (gathered addedAt) (past-next n cs)
 

@@ -4,11 +4,11 @@ use Prim.Native.Nat.{ℕ, _+_, _≤_}
 use mathlib.Core.Path.{_≡_, refl}
 use mathlib.Core.Bool.{true}
 use mathlib.Core.List.{List}
-use lib.ListN.{length, take, length-take}
-use lib.Seq.{getD-take}
+use lib.ListN.{length, take}
 use borrow.Author.Tests.{le-leb}
 use native.Mathlib.Omega.{arith}
 use Rattle.logic.specs.Every.{Every}
+use Rattle.logic.proofs.Lists.{every-take}
 use Rattle.word.specs.Word.{IsWord}
 use Rattle.step.specs.Step.{stripFits}
 use Rattle.call.specs.Call.{Call, Fitting}
@@ -18,19 +18,18 @@ use Rattle.strip.specs.Lay.{freshStrip}
 use Rattle.strip.specs.Measure.{measureOf}
 use Rattle.strip.specs.declared.Measured.the-variants.{Shape}
 use Rattle.strip.proofs.Laying.{fresh-length}
+use Rattle.strip.proofs.Shapes.{a-strip-stands-for-one-plain-strip}
 use Rattle.strip.proofs.Values.{fresh-stands-for}
 use Rattle.strip.proofs.MeasureShapes.{measure-gives-the-plain-strip}
 use Rattle.invariant.proofs.Begin.{idle-is-sane}
-use Rattle.logic.specs.Total.{total}
 use Rattle.history.specs.Run.{begin, linesFrom, endFrom, noCall}
-use Rattle.history.specs.Finished.{Finished, finishedOf}
+use Rattle.history.specs.Finished.{finishedOf}
 use Rattle.history.specs.Explained.{Explained}
-use Rattle.plain.specs.Accounts.{held}
-use Rattle.history.specs.Accounts.{accepted, taken}
+use Rattle.history.specs.Accounts.{Closed}
 use Rattle.history.proofs.Explaining.{machine-explains}
 use Rattle.history.proofs.Keeping.{Keeps, the-strip-keeps-going}
 use Rattle.history.proofs.Counters.{the-strip-stays-as-long, no-counter-ever-comes-round}
-use Rattle.history.proofs.Accounts.{accepted-is-held-or-taken}
+use Rattle.history.proofs.Accounts.{from-fresh-each-account-is-closed}
 
 module _ (strip : List ℕ) (p : Plain) (parties : ℕ) (calls : List Call) (strip-fits : stripFits (length strip) ≡ true)
     (stands : StandsFor strip p) (fitting : Every Fitting noCall calls) where
@@ -51,13 +50,9 @@ module _ (strip : List ℕ) (p : Plain) (parties : ℕ) (calls : List Call) (str
 
   pub the-strip-is-shaped-after-every-entry : (n : ℕ) → Shaped (endFrom (begin strip parties) 0 (take n calls) .strip)
   the-strip-is-shaped-after-every-entry n =
-      let upto = machine-explains Keeps the-strip-keeps-going strip p parties (take n calls) strip-fits stands fits in
+      let upto =
+      machine-explains Keeps the-strip-keeps-going strip p parties (take n calls) strip-fits stands (every-take Fitting noCall n calls fitting) in
       (upto .0, upto .1)
-    where
-      fits : Every Fitting noCall (take n calls)
-      fits i within =
-          let size = length-take n calls in
-          rw (getD-take n calls i noCall (omega arith)) (fitting i (omega arith))
 
   pub no-counter-comes-round-in-a-schedule : Every IsWord 0 strip → Every IsWord 0 (endFrom (begin strip parties) 0 calls .strip)
   no-counter-comes-round-in-a-schedule words =
@@ -78,9 +73,12 @@ module _ (max divide parties : ℕ) (calls : List Call) (some : 1 ≤ max) (smal
       every-schedule-is-explained (freshStrip max divide) (freshPlain max divide) parties calls fresh-fits
       (fresh-stands-for max divide) fitting
 
--- From a fresh strip an accepted order is held or was taken, as often as it was accepted.
-pub from-fresh-accepted-is-held-or-taken : (max divide : ℕ) {finished : List Finished} {entries : ℕ} {last : Plain}
-    → Explained (freshPlain max divide) finished entries last → (order : ℕ)
-    → accepted order finished ≡ held order last + taken order finished
-unfolding total
-from-fresh-accepted-is-held-or-taken max divide explained order = omega (arith, accepted-is-held-or-taken explained order)
+  -- The accounts are closed after any number of entries, for each order.
+  pub the-accounts-are-closed-after-every-entry : (n : ℕ) (q : Plain)
+      → StandsFor (endFrom (begin (freshStrip max divide) parties) 0 (take n calls) .strip) q
+      → (order : ℕ) → Closed order q (finishedOf parties (take n calls) (linesFrom (begin (freshStrip max divide) parties) 0 (take n calls)))
+  the-accounts-are-closed-after-every-entry n q stands order =
+      let upto =
+      every-schedule-is-explained (freshStrip max divide) (freshPlain max divide) parties (take n calls) fresh-fits (fresh-stands-for max divide)
+      (every-take Fitting noCall n calls fitting) in
+      rw (a-strip-stands-for-one-plain-strip _ q (upto .0) stands (upto .1)) (from-fresh-each-account-is-closed max divide (upto .2) order)

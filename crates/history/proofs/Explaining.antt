@@ -18,11 +18,12 @@ use Rattle.strip.specs.Shape.{StandsFor}
 use Rattle.placing.specs.Placing.{gathered, Adds}
 use Rattle.placing.proofs.Explains.{all-that-was-added-plays}
 use Rattle.history.specs.Run.{State, begin, leaves, linesFrom, endFrom, noCall}
+use Rattle.history.specs.Entries.{stateAt}
 use Rattle.history.specs.Finished.{Asked, Finished, nothingYet, finishedOf}
 use Rattle.history.specs.Explained.{Agrees, Explained}
 use Rattle.history.proofs.Booked.{Booked, booked-first, booked-next, LastLook, last-look}
 use Rattle.history.proofs.Claimed.{Claimed, claimed-next}
-use Rattle.history.proofs.Entries.{callIn, stateAt, askedAt, addedAt, run-ends-at, run-finishes}
+use Rattle.history.proofs.Entries.{callIn, askedAt, addedAt, run-ends-at, run-finishes}
 use Rattle.history.proofs.Machine.{Says, thensAfter, Machine}
 use Rattle.history.proofs.Tracing.{look-is-quiet, adds}
 

@@ -15,10 +15,10 @@ use Rattle.party.specs.Answer.{isRefusal}
 use Rattle.record.specs.declared.Record.{Record}
 use Rattle.call.specs.Call.{Call, partyOf}
 use Rattle.history.specs.Run.{State, begin, leaves, lineOf, looked, numberIn}
+use Rattle.history.specs.Entries.{stateAt, recordAt, effectAt, LookedAt}
 use Rattle.history.proofs.Parties.{looksNow, look-is-a-step, look-after}
 use Rattle.history.proofs.Since.{Since, Early, since}
 use Rattle.history.proofs.Results.{a-result-ends}
-use Rattle.history.proofs.Entries.{stateAt}
 use Rattle.history.proofs.Explaining.{booked-at}
 
 second : (r : Record) → Early r → 2 ≤ r .stage
@@ -44,29 +44,22 @@ refused-unlooked s call i refused = go (looksNow s call i) refl
     go false e = refl
 
 module _ (strip : List ℕ) (parties : ℕ) (call : ℕ → Call) where
+  abbrev first : State
+  first = begin strip parties
+
   abbrev at : ℕ → State
-  at n = stateAt (begin strip parties) call n
+  at n = stateAt first call n
 
-  abbrev recordAt : (n i : ℕ) → Record
-  recordAt n i = getD (at n .table) i idle
-
-  -- e is the entry of a look of party i before entry n: its own step, from the stage before the one where it is now; and what else it
-  -- was called for since was refused
-  pub record LookedAt (n i e : ℕ) : Type 0 where
-    pub own : partyOf (call e) ≡ i
-    pub from-stage : recordAt n i .stage ≡ suc (recordAt e i .stage)
-    pub refused-since : (m : ℕ) → e < m → m < n → partyOf (call m) ≡ i → isRefusal (numberIn (at m) (call m)) ≡ true
-
-  looked-at : (n i : ℕ) → Early (recordAt n i) → LookedAt n i (getD (at n .looks) i 0)
+  looked-at : (n i : ℕ) → Early (recordAt first call n i) → LookedAt first call n i (getD (at n .looks) i 0)
   unfolding stateAt
-  looked-at zero i early = absurd (let seen = booked-at strip parties call 0 .looked-so i (second (recordAt 0 i) early) in omega arith)
+  looked-at zero i early = absurd (let seen = booked-at strip parties call 0 .looked-so i (second (recordAt first call 0 i) early) in omega arith)
   looked-at (suc n) i early = go (since (at n) n (call n) i early) (looked-at n i)
     where
       look-is : getD (leaves (at n) n (call n) .looks) i 0 ≡ pick (looksNow (at n) (call n) i) n (getD (at n .looks) i 0)
       look-is = look-after (at n) n (booked-at strip parties call n .looks-size) (call n) i
 
-      go : Since (at n) (call n) i (recordAt n i) (getD (leaves (at n) n (call n) .table) i idle)
-          → (Early (recordAt n i) → LookedAt n i (getD (at n .looks) i 0)) → LookedAt (suc n) i (getD (leaves (at n) n (call n) .looks) i 0)
+      go : Since (at n) (call n) i (recordAt first call n i) (getD (leaves (at n) n (call n) .table) i idle)
+          → (Early (recordAt first call n i) → LookedAt first call n i (getD (at n .looks) i 0)) → LookedAt first call (suc n) i (getD (leaves (at n) n (call n) .looks) i 0)
       go (Since.now looks from) before =
           let each = both (looked (at n) (call n) (numberIn (at n) (call n))) (eqb i (partyOf (call n))) looks in
           rw (look-is, looks)
@@ -86,13 +79,9 @@ module _ (strip : List ℕ) (parties : ℕ) (call : ℕ → Call) where
                 (was .refused-since) refused;
           })
 
-  -- where the line of entry n says that its operation took effect
-  abbrev effectAt : ℕ → ℕ
-  effectAt n = lineOf (at n) n (call n) .effect
-
   -- FULL: at that attempt's stage 1 read.
   pub full-took-effect-at-the-stage-1-read : (n : ℕ) → numberIn (at n) (call n) ≡ 18
-      → LookedAt n (partyOf (call n)) (effectAt n) × (recordAt (effectAt n) (partyOf (call n)) .stage ≡ 1)
+      → LookedAt first call n (partyOf (call n)) (effectAt first call n) × (recordAt first call (effectAt first call n) (partyOf (call n)) .stage ≡ 1)
   unfolding lineOf
   full-took-effect-at-the-stage-1-read n full =
       let two = a-result-ends (at n) n (call n) (rw full refl) .full-at full in
@@ -101,7 +90,7 @@ module _ (strip : List ℕ) (parties : ℕ) (call : ℕ → Call) where
 
   -- EMPTY: at that attempt's stage 2 read.
   pub empty-took-effect-at-the-stage-2-read : (n : ℕ) → numberIn (at n) (call n) ≡ 19
-      → LookedAt n (partyOf (call n)) (effectAt n) × (recordAt (effectAt n) (partyOf (call n)) .stage ≡ 2)
+      → LookedAt first call n (partyOf (call n)) (effectAt first call n) × (recordAt first call (effectAt first call n) (partyOf (call n)) .stage ≡ 2)
   unfolding lineOf
   empty-took-effect-at-the-stage-2-read n empty =
       let three = a-result-ends (at n) n (call n) (rw empty refl) .empty-at empty in

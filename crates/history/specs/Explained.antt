@@ -17,6 +17,10 @@ pub record Between (f : Finished) : Type 0 where
   pub past-start : f .started < f .effect
   pub by-answer : f .effect ≤ f .answered
 
+-- p is the plain strip before the effect of f: what those with earlier effects leave of the first
+abbrev pub AtItsEffect : (first : Plain) → List Finished → Finished → Plain → Type 0
+AtItsEffect first finished f p = Plays Agrees first (inOrder (λ (g : Finished). g .effect) (f .effect) finished) p
+
 abbrev pub none : Finished
 none = record { operation = 0; order = 0; number = 0; carried = 0; started = 0; effect = 0; answered = 0 }
 

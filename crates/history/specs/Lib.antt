@@ -1,4 +1,5 @@
 pub mod Run
+pub mod Entries
 pub mod Finished
 pub mod Explained
 pub mod Accounts
