@@ -18,15 +18,9 @@ use Rattle.record.specs.declared.Record.{Record}
 use Rattle.party.specs.declared.Answer.{Answer}
 use Rattle.party.proofs.Kept.{idle-is-valid, begun-is-valid}
 use Rattle.step.specs.Step.{maxOf}
-use Rattle.call.specs.Call.{Call, partyOf, gate, Left, callOf}
+use Rattle.call.specs.Call.{Call, partyOf, gate, Left, callOf, Unchanged}
 use Rattle.step.proofs.Kept.{going-on-is-no-refusal, step-keeps-valid}
 use Rattle.call.proofs.Called.{Leaves, Called, called}
-
--- A refused call carries no order and leaves every word and every record.
-pub record Unchanged (strip : List ℕ) (table : List Record) (left : Left) : Type 0 where
-  pub carried : carriedOf (left .answer) ≡ 0
-  pub strip-kept : left .strip ≡ strip
-  pub table-kept : left .table ≡ table
 
 module _ (strip : List ℕ) (table : List Record) (call : Call) where
   pub refused-call-changes-nothing : isRefusal (numberOf (callOf strip table call .answer)) ≡ true

@@ -1,12 +1,14 @@
 -- Start, step and withdraw of a party on a strip and a table of records: what a call answers and leaves. Whatever holds a table,
 -- a run, an image or lent records, promises this.
 use Prim.Native.Nat.{ℕ, _<_}
+use mathlib.Core.Path.{_≡_}
 use mathlib.Core.Bool.{Bool, false, not, _&&_}
 use mathlib.Core.List.{List}
 use lib.ListN.{length, getD, set}
 use lib.Dec.{eqb, leb, ltb}
 use Rattle.logic.specs.Pick.{pick}
 use Rattle.record.specs.Record.{idle}
+use Rattle.party.specs.Answer.{carriedOf}
 use Rattle.party.specs.Calls.{startOf, withdrawOf}
 use Rattle.record.specs.declared.Record.{Record}
 use Rattle.party.specs.declared.Answer.{Answer}
@@ -85,3 +87,9 @@ unfoldable pub callOf : List ℕ → List Record → Call → Left
 callOf strip table call =
     pick (eqb (gate (length strip) (length table) call) 0) (through strip table call)
     (turnedAway strip table (gate (length strip) (length table) call))
+
+-- What a refused call leaves: it carries no order and leaves every word and every record.
+pub record Unchanged (strip : List ℕ) (table : List Record) (left : Left) : Type 0 where
+  pub carried : carriedOf (left .answer) ≡ 0
+  pub strip-kept : left .strip ≡ strip
+  pub table-kept : left .table ≡ table

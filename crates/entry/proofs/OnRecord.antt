@@ -17,11 +17,7 @@ use Rattle.step.proofs.Kept.{refused-step-changes-nothing}
 use Rattle.call.specs.Call.{Call, partyOf, gate, ownOf, ownLeaves, Left, recordOf, callOf}
 use Rattle.call.specs.Call.Call.{start, step, withdraw}
 use Rattle.call.proofs.Called.{call-through, call-away}
-use Rattle.entry.specs.OnRecord.{onRecordOf, onRecordLeaves}
-
--- A refused call gives the record back, carries no order and leaves every word.
-abbrev pub ChangesNothing : (strip : List ℕ) → Record → Answered → List ℕ → Type 0
-ChangesNothing strip r given words = RefusedKeeps r given × (isRefusal (numberOf (given .answer)) ≡ true → words ≡ strip)
+use Rattle.entry.specs.OnRecord.{onRecordOf, onRecordLeaves, ChangesNothing}
 
 refused-own-changes-nothing : (strip : List ℕ) (r : Record) (call : Call)
     → ChangesNothing strip r (ownOf strip r call) (ownLeaves strip r call)

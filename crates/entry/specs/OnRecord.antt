@@ -1,11 +1,13 @@
 -- A call on a strip and its party's own record, one of so many parties: what it answers, the record it gives back and the words it
 -- leaves.
 use Prim.Native.Nat.{ℕ}
+use mathlib.Core.Path.{_≡_}
+use mathlib.Core.Bool.{true}
 use mathlib.Core.List.{List}
 use lib.ListN.{length}
 use lib.Dec.{eqb}
 use Rattle.logic.specs.Pick.{pick}
-use Rattle.party.specs.Answer.{unless}
+use Rattle.party.specs.Answer.{numberOf, isRefusal, unless, RefusedKeeps}
 use Rattle.record.specs.declared.Record.{Record}
 use Rattle.party.specs.declared.Answered.{Answered}
 use Rattle.call.specs.Call.{Call, gate, ownOf, ownLeaves}
@@ -16,3 +18,7 @@ onRecordOf strip parties r call = unless (gate (length strip) parties call) r (o
 
 unfoldable pub onRecordLeaves : (strip : List ℕ) (parties : ℕ) → Record → Call → List ℕ
 onRecordLeaves strip parties r call = pick (eqb (gate (length strip) parties call) 0) (ownLeaves strip r call) strip
+
+-- A refused call gives the record back, carries no order and leaves every word.
+abbrev pub ChangesNothing : (strip : List ℕ) → Record → Answered → List ℕ → Type 0
+ChangesNothing strip r given words = RefusedKeeps r given × (isRefusal (numberOf (given .answer)) ≡ true → words ≡ strip)

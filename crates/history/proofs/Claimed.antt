@@ -81,10 +81,10 @@ module _ (n : ℕ) (s : State) (asked : List Asked) (booked : Booked n s asked) 
   took-effect-between : Ended s n call → TookEffect s n call (lineOf s n call .effect) → Between line-finished
   took-effect-between ended (at-answer e) =
       let asks = booked .asked-so (partyOf call) (ended .busy) in
-      record { past-start = rw e (asks .past); by-answer = rw e (omega arith) }
+      record { past-start = rw e (omega (arith, asks .past)); by-answer = rw e (omega arith) }
   took-effect-between ended (at-look e second) =
       let before = booked .looked-so (partyOf call) second in
-      record { past-start = rw e (before .0); by-answer = rw e (omega (arith, before .1)) }
+      record { past-start = rw e (omega (arith, before .0)); by-answer = rw e (omega (arith, before .1)) }
 
   module _ (done : List Finished) (claimed : Claimed n s done) where
     past : Every (λ (f : Finished). f .effect < n) none done

@@ -15,7 +15,7 @@ use Rattle.call.proofs.Calls.{refused-call-changes-nothing}
 use Rattle.call.proofs.Bounds.{no-answer-is-above-19}
 use Rattle.format.specs.Format.{sizesFit, headerRefusal}
 use Rattle.format.specs.Spelling.{stripOf, tableOf}
-use Rattle.image.specs.Calls.{Done, spareRefused, imageOf, layRefusal, layOf, ImagePromise}
+use Rattle.image.specs.Calls.{Done, spareRefused, imageOf, layRefusal, layOf, ImagePromise, RefusedLeaves}
 use Rattle.little.specs.Bytes.{AreBytes}
 use Rattle.format.proofs.Sizes.{header-checked}
 use Rattle.format.proofs.Spelled.{decoded-is-spelled}
@@ -24,11 +24,6 @@ use Rattle.format.proofs.Spelled.{decoded-is-spelled}
 pub two-images-that-keep-it-are-equal : {wanted : Done} {one two : Answer} {left other : List ℕ}
     → ImagePromise wanted one left → ImagePromise wanted two other → (one ≡ two) × (left ≡ other)
 two-images-that-keep-it-are-equal p q = (p .answered ∙ sym (q .answered), p .bytes ∙ sym (q .bytes))
-
--- A refused call carries no order and leaves every byte.
-abbrev pub RefusedLeaves : List ℕ → Done → Type 0
-RefusedLeaves image done =
-    isRefusal (numberOf (done .answer)) ≡ true → (carriedOf (done .answer) ≡ 0) × (done .image ≡ image)
 
 pub refused-image-call-changes-nothing : (image : List ℕ) (call : Call) → AreBytes image → RefusedLeaves image (imageOf image call)
 unfolding imageOf

@@ -1,11 +1,12 @@
 -- The four calls on an image: the answer and every byte that each leaves.
 use Prim.Native.Nat.{ℕ, _+_}
 use mathlib.Core.Path.{_≡_}
-use mathlib.Core.Bool.{Bool, not, _&&_}
+use mathlib.Core.Bool.{Bool, true, not, _&&_}
 use mathlib.Core.List.{List}
 use lib.ListN.{length}
 use lib.Dec.{eqb, leb}
 use Rattle.logic.specs.Pick.{pick}
+use Rattle.party.specs.Answer.{numberOf, carriedOf, isRefusal}
 use Rattle.party.specs.declared.Answer.{Answer}
 use Rattle.party.specs.declared.Answer.the-variants.{GoesOn, Refused}
 use Rattle.call.specs.Call.{Call, partyOf, gate, Left, callOf}
@@ -55,3 +56,8 @@ layOf image max parties divide =
 pub record ImagePromise (wanted : Done) (answer : Answer) (left : List ℕ) : Type 0 where
   pub answered : answer ≡ wanted .answer
   pub bytes : left ≡ wanted .image
+
+-- A refused call carries no order and leaves every byte.
+abbrev pub RefusedLeaves : List ℕ → Done → Type 0
+RefusedLeaves image done =
+    isRefusal (numberOf (done .answer)) ≡ true → (carriedOf (done .answer) ≡ 0) × (done .image ≡ image)

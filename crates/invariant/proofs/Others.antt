@@ -6,8 +6,8 @@ use mathlib.Core.List.{List}
 use lib.ListN.{set, length-set}
 use native.Mathlib.Omega.{arith}
 use Rattle.word.specs.Word.{raisedTo, valueAt}
-use Rattle.swaps.specs.Remembered.{Known}
-use Rattle.swaps.proofs.Stale.{Wins, remembered-kept, fresh-elsewhere}
+use Rattle.swaps.specs.Remembered.{Known, Wins}
+use Rattle.swaps.proofs.Stale.{remembered-kept, fresh-elsewhere}
 use Rattle.swaps.proofs.Facts.{given-kept, spared}
 use Rattle.swaps.proofs.Claims.{apart-kept}
 use Rattle.record.specs.Operation.{isPush}

@@ -6,7 +6,7 @@ use native.Mathlib.Omega.{arith}
 use Rattle.logic.specs.Every.{Every}
 use Rattle.logic.proofs.Lists.{every-set, pairs-set}
 use Rattle.word.specs.Word.{raisedTo}
-use Rattle.swaps.proofs.Stale.{Wins}
+use Rattle.swaps.specs.Remembered.{Wins}
 use Rattle.record.specs.Record.{idle}
 use Rattle.record.specs.declared.Record.{Record}
 use Rattle.invariant.specs.Invariant.{Sound, Clear, Sane}

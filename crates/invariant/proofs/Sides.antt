@@ -9,8 +9,8 @@ use borrow.Author.Tests.{leb-true, ne-eqb}
 use native.Mathlib.Omega.{arith}
 use Rattle.logic.specs.Pick.{pick}
 use Rattle.logic.proofs.Bools.{both}
-use Rattle.word.proofs.Laws.{Took}
-use Rattle.swaps.proofs.Stale.{Wins}
+use Rattle.word.specs.Swap.{Took}
+use Rattle.swaps.specs.Remembered.{Wins}
 use Rattle.record.specs.Operation.{isRight, isPush, orderFits}
 use Rattle.record.specs.Valid.{validOf, placeFits}
 use Rattle.record.specs.declared.Record.{Record}

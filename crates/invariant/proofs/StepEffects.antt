@@ -11,7 +11,7 @@ use native.Mathlib.Omega.{arith}
 use Rattle.logic.proofs.Bools.{both}
 use Rattle.word.specs.Word.{valueOf, raisedTo, valueAt}
 use Rattle.word.proofs.Laws.{raised-value}
-use Rattle.swaps.proofs.Stale.{Wins}
+use Rattle.swaps.specs.Remembered.{Wins}
 use Rattle.swaps.proofs.Facts.{values-kept}
 use Rattle.record.specs.Operation.{isPush}
 use Rattle.record.specs.Valid.{placeFits, atWall}

@@ -7,10 +7,9 @@ use lib.ListN.{length, getD, set}
 use native.Mathlib.Omega.{arith}
 use Rattle.logic.specs.Every.{Every}
 use Rattle.word.specs.Word.{valueOf, raisedTo, valueAt}
-use Rattle.word.proofs.Laws.{Took}
-use Rattle.swaps.specs.Remembered.{Known}
+use Rattle.word.specs.Swap.{Took}
+use Rattle.swaps.specs.Remembered.{Known, Wins}
 use Rattle.swaps.specs.Claims.{Apart}
-use Rattle.swaps.proofs.Stale.{Wins}
 use Rattle.swaps.proofs.Claims.{apart-made, apart-sym}
 use Rattle.record.specs.Operation.{isPush}
 use Rattle.record.specs.Record.{idle, atStage}

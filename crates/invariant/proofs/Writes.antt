@@ -16,7 +16,8 @@ use Rattle.call.specs.Call.{Call, recordOf, callOf}
 use Rattle.step.proofs.Cleared.{Steppable}
 use Rattle.step.proofs.Went.{GoneOn}
 use Rattle.invariant.specs.Invariant.{Sane}
-use Rattle.swaps.proofs.Stale.{Wins, counter-kept}
+use Rattle.swaps.specs.Remembered.{Wins}
+use Rattle.swaps.proofs.Stale.{counter-kept}
 use Rattle.invariant.proofs.Sides.{own-is-null, Placed, placed, wins-at-place, wins-at-near}
 use Rattle.call.proofs.Called.{Called, called}
 

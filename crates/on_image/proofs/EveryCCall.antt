@@ -23,12 +23,10 @@ use Rattle.format.specs.Intact.{AllIdle}
 use Rattle.format.specs.Fresh.{freshImage}
 use Rattle.image.specs.Calls.{imageOf, layOf}
 use Rattle.history.specs.Run.{State, Line, linesFrom, noCall}
-use Rattle.history.specs.Finished.{finishedOf}
-use Rattle.history.specs.Explained.{Explained}
 use Rattle.pds.specs.Packed.{PackedPromise}
 use Rattle.pds.proofs.Unpacked.{a-packed-answer-tells-its-number-and-order}
 use Rattle.on_image.specs.Run.{answersOn, imageAfter, firstOn}
-use Rattle.on_image.specs.Packed.{InTurn, linesTold, effectsOn}
+use Rattle.on_image.specs.Packed.{InTurn, linesTold, ExplainedInTurn}
 use Rattle.on_image.proofs.Fresh.{fresh-is-taken, fresh-is-idle, fresh-bytes, fresh-spells-fresh}
 use Rattle.on_image.proofs.Laid.{what-lay-leaves-is-fresh, what-lay-takes-fits, pds-lay-was-not-refused}
 use Rattle.on_image.proofs.EveryRun.{every-run-on-an-image-is-explained}
@@ -60,39 +58,30 @@ in-turn-tells (call ∷ calls) (line ∷ lines) image (answer ∷ answers) last 
     let later = in-turn-tells calls lines (imageOf image call .image) answers last rest (ap (drop 1) numbers) (ap (drop 1) carried) in
     rw (told .0, told .1, later, ap first numbers, ap first carried) refl
 
--- Demand 3 of the C calls.
-module _ (image : List ℕ) (p : Plain) (calls : List Call) (are : AreBytes image) (taken : headerRefusal image ≡ 0) (idle : AllIdle image)
-    (stands : StandsFor (stripOf image) p) (fitting : Every Fitting noCall calls) (answers last : List ℕ)
-    (turn : InTurn image calls answers last) where
-  pub every-run-of-C-calls-is-explained :
-      (q : Plain) × StandsFor (stripOf last) q
-      × Explained p (finishedOf (partiesAt image) calls (linesTold answers (effectsOn image calls))) (length calls) q
-  every-run-of-C-calls-is-explained =
+-- Demand 3 of the C calls. From any image whose header is taken, whose records are 32 zero bytes each and whose strip stands for p.
+module _ (image : List ℕ) (p : Plain) (are : AreBytes image) (taken : headerRefusal image ≡ 0) (idle : AllIdle image)
+    (stands : StandsFor (stripOf image) p) where
+  pub every-run-of-C-calls-is-explained : (calls : List Call) (answers last : List ℕ) → Every Fitting noCall calls
+      → InTurn image calls answers last → ExplainedInTurn p (partiesAt image) image calls answers last
+  every-run-of-C-calls-is-explained calls answers last fitting turn =
       let run = every-run-on-an-image-is-explained image p calls are taken idle stands fitting in
       let lines = in-turn-tells calls (linesFrom (firstOn image) 0 calls) image answers last turn (run .0 .numbers) (run .0 .carried) in
       (run .1, rw (in-turn-ends calls image answers last turn) (run .2), rw lines (run .3))
 
 -- What pds_lay leaves where it answers 0 is such an image, with a fresh strip of the divide that it was given.
-module _ (max parties divide : ℕ) (calls : List Call) (fitting : Every Fitting noCall calls) (answers last : List ℕ) where
-  abbrev pub ExplainedOn : (image : List ℕ) → Type 0
-  ExplainedOn image =
-      (q : Plain) × StandsFor (stripOf last) q
-      × Explained (freshPlain max divide) (finishedOf parties calls (linesTold answers (effectsOn image calls))) (length calls) q
-
+module _ (max parties divide : ℕ) (calls : List Call) (answers last : List ℕ) (fitting : Every Fitting noCall calls) where
   on-a-fresh-image : countsFit max parties ≡ true → divide ≤ max → InTurn (freshImage 1 max parties divide) calls answers last
-      → ExplainedOn (freshImage 1 max parties divide)
+      → ExplainedInTurn (freshPlain max divide) parties (freshImage 1 max parties divide) calls answers last
   unfolding bytesOf
-  on-a-fresh-image fit inside turn =
-      let image = freshImage 1 max parties divide in
-      let stands : StandsFor (stripOf image) (freshPlain max divide) =
-      rw (fresh-spells-fresh 1 max parties divide refl fit inside) (fresh-stands-for max divide) in
-      every-run-of-C-calls-is-explained image (freshPlain max divide) calls (fresh-bytes 1 max parties divide refl fit inside)
-      (fresh-is-taken 1 max parties divide refl fit inside) (fresh-is-idle 1 max parties divide refl fit inside) stands fitting answers last turn
+  on-a-fresh-image fit inside =
+      every-run-of-C-calls-is-explained (freshImage 1 max parties divide) (freshPlain max divide)
+      (fresh-bytes 1 max parties divide refl fit inside) (fresh-is-taken 1 max parties divide refl fit inside)
+      (fresh-is-idle 1 max parties divide refl fit inside)
+      (rw (fresh-spells-fresh 1 max parties divide refl fit inside) (fresh-stands-for max divide)) calls answers last fitting
 
   pub every-run-of-C-calls-after-pds-lay-is-explained : (bytes image : List ℕ) → PackedPromise (layOf bytes max parties divide) 0 image
-      → InTurn image calls answers last → ExplainedOn image
+      → InTurn image calls answers last → ExplainedInTurn (freshPlain max divide) parties image calls answers last
   every-run-of-C-calls-after-pds-lay-is-explained bytes image laid =
       let none = pds-lay-was-not-refused bytes max parties divide image laid in
       let fits = what-lay-takes-fits bytes max parties divide none in
-      let is = laid .bytes ∙ what-lay-leaves-is-fresh bytes max parties divide none in
-      rw is (on-a-fresh-image (fits .0) (fits .1))
+      rw (laid .bytes ∙ what-lay-leaves-is-fresh bytes max parties divide none) (on-a-fresh-image (fits .0) (fits .1))

@@ -2,10 +2,16 @@
 use Prim.Native.Nat.{ℕ}
 use mathlib.Core.Path.{_≡_}
 use mathlib.Core.List.{List, [], _∷_, map}
+use lib.ListN.{length}
 use Rattle.call.specs.Call.{Call}
+use Rattle.plain.specs.Plain.{Plain}
+use Rattle.strip.specs.Shape.{StandsFor}
+use Rattle.format.specs.Spelling.{stripOf}
 use Rattle.image.specs.Calls.{imageOf}
 use Rattle.pds.specs.Packed.{pdsNumber, pdsOrder, PackedPromise}
 use Rattle.history.specs.Run.{Line, linesFrom}
+use Rattle.history.specs.Finished.{finishedOf}
+use Rattle.history.specs.Explained.{Explained}
 use Rattle.on_image.specs.Run.{firstOn}
 
 -- each keeps its promise on the bytes that the one before left: these are the answers, and the bytes after the last
@@ -26,3 +32,10 @@ linesTold (answer ∷ answers) (effect ∷ effects) =
 -- where each took effect, in the run of the strip that the image spells
 abbrev pub effectsOn : (image : List ℕ) → List Call → List ℕ
 effectsOn image calls = map (λ (line : Line). line .effect) (linesFrom (firstOn image) 0 calls)
+
+-- Demand 3 as C sees it: the finished operations, read from the calls and the answers, are explained from the plain strip p on, and the
+-- last bytes spell a strip that stands for its end.
+abbrev pub ExplainedInTurn : (p : Plain) (parties : ℕ) (image : List ℕ) → List Call → (answers last : List ℕ) → Type 0
+ExplainedInTurn p parties image calls answers last =
+    (q : Plain) × StandsFor (stripOf last) q
+    × Explained p (finishedOf parties calls (linesTold answers (effectsOn image calls))) (length calls) q

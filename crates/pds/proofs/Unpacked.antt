@@ -9,8 +9,8 @@ use Rattle.little.specs.Bytes.{AreBytes}
 use Rattle.party.specs.Answer.{isRefusal, numberOf}
 use Rattle.party.specs.declared.Answer.{Answer}
 use Rattle.call.specs.Call.{Call}
-use Rattle.image.specs.Calls.{Done, imageOf, layOf, ImagePromise}
-use Rattle.image.proofs.Kept.{RefusedLeaves, refused-image-call-changes-nothing, refused-lay-changes-nothing, no-image-answer-is-above-19, no-lay-answer-is-above-19}
+use Rattle.image.specs.Calls.{Done, imageOf, layOf, ImagePromise, RefusedLeaves}
+use Rattle.image.proofs.Kept.{refused-image-call-changes-nothing, refused-lay-changes-nothing, no-image-answer-is-above-19, no-lay-answer-is-above-19}
 use Rattle.pds.specs.Packed.{packedOf, pdsOrder, pdsRefused, Tells, PackedPromise}
 
 -- The answer of a call on an image, packed, keeps the promise of the C call.

@@ -7,7 +7,7 @@ use mathlib.Core.List.{List, [], _∷_, _++_}
 use lib.Dec.{eqb}
 use borrow.Author.Tests.{eqb-true, eqb-false}
 use native.Mathlib.Omega.{arith}
-use Rattle.placing.specs.Placing.{atEntry, inOrder, Plays, Adds, gathered}
+use Rattle.placing.specs.Placing.{atEntry, inOrder, Plays, Adds, AllAdd, gathered}
 use Rattle.placing.proofs.Entries.{at-entry-of-both, one-at-its-entry, none-at-another}
 use Rattle.placing.proofs.Playing.{plays-both}
 
@@ -43,10 +43,7 @@ module _ {F S : Type 0} (effect : F → ℕ) (Agrees : F → S → S → Type 0)
       go false t = rw (none-at-another effect e f (eqb-false (effect f) e t)) refl
 
   module _ (added : ℕ → List F) where
-    abbrev AllAdd : ℕ → Type 0
-    AllAdd entries = (n : ℕ) → n < entries → Adds effect Agrees trace n (added n)
-
-    nothing-ahead : (n e : ℕ) → AllAdd n → n ≤ e → atEntry effect e (gathered added n) ≡ []
+    nothing-ahead : (n e : ℕ) → AllAdd effect Agrees trace added n → n ≤ e → atEntry effect e (gathered added n) ≡ []
     unfolding gathered atEntry
     nothing-ahead zero e adds ahead = refl
     nothing-ahead (suc n) e adds ahead =
@@ -57,7 +54,7 @@ module _ {F S : Type 0} (effect : F → ℕ) (Agrees : F → S → S → Type 0)
         )
 
     -- those of one entry take the state before it to the state after it
-    pub entry-plays : (n e : ℕ) → AllAdd n → e < n
+    pub entry-plays : (n e : ℕ) → AllAdd effect Agrees trace added n → e < n
         → Plays Agrees (trace e) (atEntry effect e (gathered added n)) (trace (suc e))
     unfolding gathered
     entry-plays zero e adds below = absurd (omega arith)
@@ -77,7 +74,7 @@ module _ {F S : Type 0} (effect : F → ℕ) (Agrees : F → S → S → Type 0)
             (earlier (omega arith)) (added-before n e (added n) (adds n (omega arith)) (omega arith))
 
     -- Whatever the machine: all that was added plays, in the order of its effects, from the first state to the last.
-    pub all-that-was-added-plays : (entries : ℕ) → AllAdd entries
+    pub all-that-was-added-plays : (entries : ℕ) → AllAdd effect Agrees trace added entries
         → Plays Agrees (trace 0) (inOrder effect entries (gathered added entries)) (trace entries)
     unfolding inOrder
     all-that-was-added-plays entries adds = upto entries (omega arith)

@@ -32,6 +32,10 @@ module _ {F S : Type 0} (effect : F → ℕ) (Agrees : F → S → S → Type 0)
     earlier : (f : F) → added ≡ f ∷ [] → effect f < n → trace (suc n) ≡ trace n
         → Agrees f (trace (suc (effect f))) (trace (suc (effect f))) → Adds n added
 
+  -- so each of the first entries
+  abbrev pub AllAdd : (added : ℕ → List F) (entries : ℕ) → Type 0
+  AllAdd added entries = (n : ℕ) → n < entries → Adds n (added n)
+
 module _ {F : Type 0} (added : ℕ → List F) where
   -- what the first entries added, one behind the other
   unfoldable pub gathered : (entries : ℕ) → List F

@@ -10,9 +10,9 @@ use borrow.Author.Tests.{eqb-true, eqb-false}
 use native.Mathlib.Omega.{arith}
 use Rattle.logic.proofs.Bools.{whichever}
 use Rattle.word.specs.Word.{valueOf, raisedTo}
-use Rattle.word.specs.Swap.{swapOf, wordsAfter}
+use Rattle.word.specs.Swap.{swapOf, wordsAfter, Took}
 use Rattle.word.specs.declared.Swapped.{Swapped}
-use Rattle.word.proofs.Laws.{Took, SwapGoes, swap-goes}
+use Rattle.word.proofs.Laws.{SwapGoes, swap-goes}
 use Rattle.record.specs.Operation.{isPush}
 use Rattle.record.specs.Record.{again, atStage, withPlace, withFirst, withSecond}
 use Rattle.record.specs.Valid.{isIdle, validOf}

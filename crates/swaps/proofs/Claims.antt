@@ -4,9 +4,9 @@ use mathlib.Core.Path.{_≡_, _∙_}
 use mathlib.Core.List.{List}
 use lib.ListN.{set}
 use Rattle.word.specs.Word.{raisedTo}
-use Rattle.swaps.specs.Remembered.{Fresh, Known}
+use Rattle.swaps.specs.Remembered.{Fresh, Known, Wins}
 use Rattle.swaps.specs.Claims.{Claim, Apart}
-use Rattle.swaps.proofs.Stale.{Wins, fresh-elsewhere}
+use Rattle.swaps.proofs.Stale.{fresh-elsewhere}
 
 -- the same said of the two the other way round
 pub apart-sym : (words : List ℕ) (a b : Claim) → Apart words a b → Apart words b a

@@ -6,8 +6,8 @@ use lib.ListN.{set}
 use lib.Seq.{map-set-same}
 use Rattle.word.specs.Word.{valueOf, raisedTo, valueAt}
 use Rattle.word.proofs.Laws.{raised-value}
-use Rattle.swaps.specs.Remembered.{Fresh, Known}
-use Rattle.swaps.proofs.Stale.{Wins, ValueAfter, fresh-elsewhere, value-after}
+use Rattle.swaps.specs.Remembered.{Fresh, Known, Wins}
+use Rattle.swaps.proofs.Stale.{ValueAfter, fresh-elsewhere, value-after}
 
 -- what holds of the value at a place holds of the same value written there
 pub spared : (words : List ℕ) (place to : ℕ) → valueAt words place ≡ to → (P : ℕ → Type 0) (q : ℕ) → P (valueAt words q)

@@ -10,8 +10,9 @@ use borrow.Author.Tests.{eqb-true, eqb-false}
 use native.Mathlib.Omega.{arith}
 use Rattle.logic.proofs.Lists.{at-set}
 use Rattle.word.specs.Word.{counterOf, raisedTo, valueAt}
-use Rattle.word.proofs.Laws.{Took, raised-value}
-use Rattle.swaps.specs.Remembered.{Remembered, Fresh, Known}
+use Rattle.word.specs.Swap.{Took}
+use Rattle.word.proofs.Laws.{raised-value}
+use Rattle.swaps.specs.Remembered.{Remembered, Fresh, Known, Wins}
 
 -- what a swap writes is above every word remembered of the one it takes the place of, and so none of them
 raised-is-other : (word now to : ℕ) → Remembered word now → counterOf word < counterOf (raisedTo now to)
@@ -20,11 +21,6 @@ raised-is-other word now to (Remembered.stale l) = omega arith
 
 passed-is-other : (word now : ℕ) → counterOf word < counterOf now → now ≡ word → ⊥
 passed-is-other word now l e = omega arith
-
--- a swap wins at a place inside the words, where it met the word it expected
-pub record Wins (words : List ℕ) (place from : ℕ) : Type 0 where
-  pub within : place < length words
-  pub took : Took (getD words place 0) from
 
 -- a place after one word was set: that place, or another that is as it was
 data After (words : List ℕ) (place word q : ℕ) : Type 0 where

@@ -9,19 +9,11 @@ use Rattle.pieces.specs.Pieces.{readRefusal}
 use Rattle.whole.specs.Whole.{ReadPromise, writeRefusal, WritePromise}
 
 -- Two results that keep one promise have the same number, words and records, or bytes.
-pub record SameRead (one : ℕ) (words : List ℕ) (records : List Record) (two : ℕ) (words′ : List ℕ) (records′ : List Record) : Type 0 where
-  pub number : one ≡ two
-  pub strip : words ≡ words′
-  pub table : records ≡ records′
-
 pub two-readings-that-keep-it-are-equal : {image strip : List ℕ} {table : List Record} {one two : ℕ} {words words′ : List ℕ} {records records′ : List Record}
-    → ReadPromise image strip table one words records → ReadPromise image strip table two words′ records′ → SameRead one words records two words′ records′
+    → ReadPromise image strip table one words records → ReadPromise image strip table two words′ records′
+    → (one ≡ two) × (words ≡ words′) × (records ≡ records′)
 two-readings-that-keep-it-are-equal p q =
-    record {
-      number = p .number-read ∙ sym (q .number-read);
-      strip = p .words-read ∙ sym (q .words-read);
-      table = p .records-read ∙ sym (q .records-read);
-    }
+    (p .number-read ∙ sym (q .number-read), p .words-read ∙ sym (q .words-read), p .records-read ∙ sym (q .records-read))
 
 pub two-writings-that-keep-it-are-equal : {image strip : List ℕ} {table : List Record} {one two : ℕ} {bytes bytes′ : List ℕ}
     → WritePromise image strip table one bytes → WritePromise image strip table two bytes′ → (one ≡ two) × (bytes ≡ bytes′)

@@ -6,13 +6,8 @@ use lib.Dec.{eqb}
 use borrow.Author.Tests.{eqb-true, eqb-false}
 use native.Mathlib.Omega.{arith}
 use Rattle.word.specs.Word.{IsWord, valueOf, counterOf, lastCounter, raisedTo}
-use Rattle.word.specs.Swap.{swapOf}
+use Rattle.word.specs.Swap.{swapOf, Took}
 use Rattle.word.specs.declared.Swapped.the-variants.{Won, Lost, Stuck}
-
--- A swap that won met the word it expected, and that word's counter was not at its end.
-pub record Took (met from : ℕ) : Type 0 where
-  pub same : met ≡ from
-  pub unended : counterOf from ≡ lastCounter → ⊥
 
 -- The three ways a swap goes, each with what it tells.
 pub data SwapGoes (met from : ℕ) : Type 0 where
