@@ -1,5 +1,4 @@
 pub mod Format
 pub mod Spelling
 pub mod Fresh
-pub mod Intact
 pub mod Inside

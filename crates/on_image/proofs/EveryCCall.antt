@@ -19,7 +19,7 @@ use Rattle.little.specs.Bytes.{AreBytes, bytesOf}
 use Rattle.header.specs.Header.{partiesAt, countsFit}
 use Rattle.format.specs.Format.{headerRefusal, lengthOf, sizesFit}
 use Rattle.format.specs.Spelling.{stripOf}
-use Rattle.format.specs.Intact.{AllIdle}
+use Rattle.on_image.specs.Intact.{AllIdle}
 use Rattle.format.specs.Fresh.{freshImage}
 use Rattle.image.specs.Calls.{imageOf, layOf}
 use Rattle.history.specs.Run.{State, Line, linesFrom, noCall}

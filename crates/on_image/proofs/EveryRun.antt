@@ -18,7 +18,7 @@ use Rattle.little.specs.Bytes.{AreBytes}
 use Rattle.header.specs.Header.{partiesAt, maxAt}
 use Rattle.format.specs.Format.{headerRefusal}
 use Rattle.format.specs.Spelling.{stripOf, tableOf}
-use Rattle.format.specs.Intact.{Intact, AllIdle}
+use Rattle.on_image.specs.Intact.{Intact, AllIdle}
 use Rattle.format.proofs.Sizes.{header-sized}
 use Rattle.format.proofs.Spelled.{strip-length}
 use Rattle.image.specs.Calls.{Done, decoded, imageOf}

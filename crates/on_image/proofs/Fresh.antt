@@ -25,7 +25,7 @@ use Rattle.header.specs.Header.{versionAt, partiesAt, maxAt, countsFit}
 use Rattle.format.specs.Format.{isKnown, lengthOf, headerRefusal, recordsIn, wordsBase}
 use Rattle.format.specs.Spelling.{wordsFrom, stripOf, tableOf, wordBytes}
 use Rattle.format.specs.Fresh.{headerBytes, freshImage}
-use Rattle.format.specs.Intact.{Intact, AllIdle}
+use Rattle.on_image.specs.Intact.{Intact, AllIdle}
 use Rattle.format.proofs.Parts.{partsFrom, withParts, laid-parts-read}
 use Rattle.format.proofs.Words.{wordPart, words-are-parts, words-laid-are-parts}
 use Rattle.format.proofs.Laying.{length-header, length-word-bytes}

@@ -18,7 +18,7 @@ use Rattle.little.proofs.Digits.{same-number}
 use Rattle.header.specs.Header.{versionAt, partiesAt, maxAt}
 use Rattle.format.specs.Format.{partyPlace}
 use Rattle.format.specs.Spelling.{stripOf, tableOf, isSpare, spelled, RecordFits}
-use Rattle.format.specs.Intact.{Intact}
+use Rattle.on_image.specs.Intact.{Intact}
 use Rattle.format.proofs.Sizes.{same-header}
 use Rattle.format.proofs.Spelled.{strip-length, as-long, still-bytes, header-kept, version-kept, max-kept, spare-bytes-kept}
 use Rattle.image.specs.Calls.{decoded, encoded, spareRefused, imageOf}

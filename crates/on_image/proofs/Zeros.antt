@@ -10,7 +10,7 @@ use Rattle.little.specs.Bytes.{AreBytes, numberAt}
 use Rattle.header.specs.Header.{versionAt, partiesAt}
 use Rattle.format.specs.Format.{headerRefusal, recordsIn, partyPlace}
 use Rattle.format.specs.Spelling.{recordAt, recordsFrom, tableOf}
-use Rattle.format.specs.Intact.{Intact, AllIdle}
+use Rattle.on_image.specs.Intact.{Intact, AllIdle}
 
 -- from a place on every byte is zero
 abbrev ZerosFrom : List ℕ → ℕ → Type 0

@@ -1,2 +1,3 @@
+pub mod Intact
 pub mod Run
 pub mod Packed

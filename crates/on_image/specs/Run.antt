@@ -7,7 +7,7 @@ use Rattle.party.specs.declared.Answer.{Answer}
 use Rattle.call.specs.Call.{Call}
 use Rattle.header.specs.Header.{partiesAt}
 use Rattle.format.specs.Spelling.{stripOf, tableOf}
-use Rattle.format.specs.Intact.{Intact}
+use Rattle.on_image.specs.Intact.{Intact}
 use Rattle.image.specs.Calls.{imageOf}
 use Rattle.history.specs.Run.{State, Line, begin, linesFrom, endFrom}
 
