@@ -1,17 +1,19 @@
--- What start and withdraw keep: a refused call changes nothing, a valid record stays valid, and their promises leave nothing open.
+-- What start and withdraw keep: a refused call changes nothing, a valid record stays valid, their promises leave nothing open, and
+-- another MAX alters nothing but may refuse.
 use Prim.Native.Nat.{ℕ, _<_}
 use mathlib.Core.Path.{_≡_, refl, sym, _∙_}
-use mathlib.Core.Bool.{Bool, true, false, true≢false}
-use lib.Dec.{eqb}
+use mathlib.Core.Bool.{Bool, true, false, not, true≢false}
+use mathlib.Core.Logic.{inl, inr}
+use lib.Dec.{eqb, ltb}
 use borrow.Author.Tests.{lt-ltb, eqb-true}
 use native.Mathlib.Omega.{arith}
 use Rattle.logic.specs.Pick.{pick}
 use Rattle.logic.proofs.Bools.{whichever}
 use Rattle.record.specs.Operation.{orderFits}
 use Rattle.record.specs.Record.{idle, begun}
-use Rattle.record.specs.Valid.{validOf}
-use Rattle.party.specs.Answer.{goingOn, refused, unless, RefusedKeeps}
-use Rattle.party.specs.Calls.{startRefusal, startOf, withdrawRefusal, withdrawOf}
+use Rattle.record.specs.Valid.{isIdle, validOf}
+use Rattle.party.specs.Answer.{goingOn, refused, unless, RefusedKeeps, RefusedOr}
+use Rattle.party.specs.Calls.{maxFits, startOwn, startRefusal, startOf, withdrawOwn, withdrawRefusal, withdrawOf}
 use Rattle.record.specs.declared.Record.{Record}
 use Rattle.party.specs.declared.Answered.{Answered}
 use Rattle.record.proofs.Stages.{ValidAt, at-valid}
@@ -69,3 +71,26 @@ start-keeps-valid max r operation order valid =
 pub withdraw-keeps-valid : (max : ℕ) (r : Record) → validOf max r ≡ true → validOf max (withdrawOf max r .rec) ≡ true
 unfolding withdrawOf
 withdraw-keeps-valid max r valid = unless-valid max (withdrawRefusal max r) r idle valid (λ none. idle-is-valid max)
+
+-- MAX decides whether it is in bounds and whether the record is valid, and nothing else
+at-another-max : (fits unknown valid : Bool) (rest : ℕ) (r next : Record)
+    → RefusedOr (unless (pick unknown 11 rest) r (goingOn next))
+    (unless (pick (not fits) 1 (pick unknown 11 (pick (not valid) 4 rest))) r (goingOn next))
+at-another-max false unknown valid rest r next = inl refl
+at-another-max true true valid rest r next = inr refl
+at-another-max true false false rest r next = inl refl
+at-another-max true false true rest r next = inr refl
+
+module _ (max other : ℕ) (r : Record) (fits : maxFits max ≡ true) (valid : validOf max r ≡ true) where
+  pub start-at-another-max-is-refused-or-the-same : (operation order : ℕ)
+      → RefusedOr (startOf max r operation order) (startOf other r operation order)
+  unfolding startOf startRefusal startOwn
+  start-at-another-max-is-refused-or-the-same operation order =
+      rw (fits, valid)
+      (at-another-max (maxFits other) (ltb 3 operation) (validOf other r)
+      (pick (not (isIdle r)) 5 (pick (not (orderFits operation order)) 7 0)) r (begun operation order))
+
+  pub withdraw-at-another-max-is-refused-or-the-same : RefusedOr (withdrawOf max r) (withdrawOf other r)
+  unfolding withdrawOf withdrawRefusal withdrawOwn
+  withdraw-at-another-max-is-refused-or-the-same =
+      rw (fits, valid) (at-another-max (maxFits other) false (validOf other r) (pick (isIdle r) 6 0) r idle)

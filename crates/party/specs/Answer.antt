@@ -2,6 +2,7 @@
 use Prim.Native.Nat.{ℕ}
 use mathlib.Core.Path.{_≡_}
 use mathlib.Core.Bool.{Bool, true, _&&_}
+use mathlib.Core.Logic.{_⊎_}
 use lib.Dec.{eqb, leb}
 use Rattle.logic.specs.Pick.{pick}
 use Rattle.record.specs.declared.Record.{Record}
@@ -48,3 +49,7 @@ unless number r done = pick (eqb number 0) done (refused number r)
 -- A refused call gives the record back as it was and carries no order.
 abbrev pub RefusedKeeps : Record → Answered → Type 0
 RefusedKeeps r given = isRefusal (numberOf (given .answer)) ≡ true → (given .rec ≡ r) × (carriedOf (given .answer) ≡ 0)
+
+-- A call is refused, or gives what another gives.
+abbrev pub RefusedOr : (other given : Answered) → Type 0
+RefusedOr other given = (isRefusal (numberOf (given .answer)) ≡ true) ⊎ (given ≡ other)
