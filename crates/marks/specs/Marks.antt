@@ -4,10 +4,11 @@ use mathlib.Core.Bool.{Bool, true, _&&_}
 use mathlib.Core.List.{List, [], _∷_, map}
 use lib.Dec.{eqb}
 use Rattle.word.specs.Word.{wordOf}
+use Rattle.call.specs.Call.{Call}
 use Rattle.call.specs.Call.Call.{start, step}
 use Rattle.strip.specs.Lay.{freshStrip}
 use Rattle.strip.specs.Measure.{measureOf, measuredLeft}
-use Rattle.history.specs.Run.{begin, linesFrom, endFrom}
+use Rattle.history.specs.Run.{State, begin, linesFrom, endFrom}
 use Rattle.schedule.specs.List.{listingOf}
 use Rattle.marks.specs.Fight.{fight, fightText}
 use Rattle.marks.specs.Seen.{Row, goes, refuses, ends, sameRow, seenFrom}
@@ -27,11 +28,17 @@ pub record Mark : Type 0 where
   pub cells : List ℕ
   pub left : ℕ
 
+abbrev pub callsOf : Mark → List Call
+callsOf m = map (λ (row : Row). row .call) (m .rows)
+
+abbrev pub beginOf : Mark → State
+beginOf m = begin (m .strip) (m .parties)
+
 -- All is seen as it must be, and the plain strip explains it.
 abbrev pub holds : Mark → Bool
 holds m =
-    let calls = map (λ (row : Row). row .call) (m .rows) in
-    let first = begin (m .strip) (m .parties) in
+    let calls = callsOf m in
+    let first = beginOf m in
     let last = endFrom first 0 calls .strip in
     allSame sameRow (seenFrom first 0 calls) (m .rows)
     && allSame eqb last (m .cells)
@@ -61,10 +68,9 @@ fresh = freshStrip 2 1
 abbrev pub afterM1 : List ℕ
 afterM1 = 0 · 0 ∷ 0 · 1 ∷ 7 · 1 ∷ 1 · 0 ∷ []
 
--- M11 is run by a program.
-abbrev pub marks : List Mark
-marks =
-    -- M1: right push 7, hint 2, alone: four steps, cells 0.0 0.1 7.1 1.0
+-- M1: right push 7, hint 2, alone: four steps, cells 0.0 0.1 7.1 1.0
+abbrev pub m1 : Mark
+m1 =
     record {
       strip = fresh;
       parties = 1;
@@ -78,20 +84,11 @@ marks =
       cells = afterM1;
       left = 1;
     }
-    -- M2: then right push 8, hint 3: FULL in two steps, though L is 1
-    ∷ record {
-      strip = afterM1;
-      parties = 1;
-      rows =
-          goes (start 0 rightPush 8) 1
-          ∷ goes (step 0 3) 2
-          ∷ ends (step 0 0) 18 0 1
-          ∷ [];
-      cells = afterM1;
-      left = 1;
-    }
-    -- M3: the listing of document 01: the pop answers EMPTY after 7 stands in the strip, and comes before the push
-    ∷ record {
+
+-- M3: the listing of document 01: the pop answers EMPTY after 7 stands in the strip, and comes before the push
+abbrev pub m3 : Mark
+m3 =
+    record {
       strip = fresh;
       parties = 2;
       rows =
@@ -108,6 +105,24 @@ marks =
       cells = afterM1;
       left = 1;
     }
+
+-- M11 is run by a program.
+abbrev pub marks : List Mark
+marks =
+    m1
+    -- M2: then right push 8, hint 3: FULL in two steps, though L is 1
+    ∷ record {
+      strip = afterM1;
+      parties = 1;
+      rows =
+          goes (start 0 rightPush 8) 1
+          ∷ goes (step 0 3) 2
+          ∷ ends (step 0 0) 18 0 1
+          ∷ [];
+      cells = afterM1;
+      left = 1;
+    }
+    ∷ m3
     -- M4: right pop reads 0.0 at 1; right push 7 takes stages 1, 2, 4; pop takes stages 2, 3, 4; push's stage 5 loses;
     -- pop's stage 5 loses
     ∷ record {

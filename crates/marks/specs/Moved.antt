@@ -1,0 +1,32 @@
+-- Two marks' runs with one effect moved, as a wrong listing would have it.
+use Prim.Native.Nat.{ℕ}
+use mathlib.Core.List.{List}
+use lib.ListN.{getD, set}
+use Rattle.history.specs.Run.{Line, linesFrom}
+use Rattle.history.specs.Finished.{Finished, finishedOf}
+use Rattle.marks.specs.Marks.{Mark, callsOf, beginOf, m1, m3}
+
+abbrev pub linesOf : Mark → List Line
+linesOf m = linesFrom (beginOf m) 0 (callsOf m)
+
+-- what is read as finished from a mark's calls and these lines
+abbrev pub finishedBy : Mark → List Line → List Finished
+finishedBy m lines = finishedOf (m .parties) (callsOf m) lines
+
+-- stands for what is past the end of a list of lines
+abbrev pub noLine : Line
+noLine = record { number = 0; carried = 0; effect = 0 }
+
+-- the lines of a mark's run, that of one entry with another effect
+abbrev pub moved : Mark → (entry effect : ℕ) → List Line
+moved m entry effect =
+    let line = getD (linesOf m) entry noLine in
+    set (linesOf m) entry (record { number = line .number; carried = line .carried; effect = effect })
+
+-- M3: EMPTY, answered by entry 8, took effect at its look, entry 6; here at its answer
+abbrev pub emptyAtItsAnswer : List Finished
+emptyAtItsAnswer = finishedBy m3 (moved m3 8 8)
+
+-- M1: PUSHED, answered by entry 4, took effect there; here at its start, entry 0
+abbrev pub pushedAtItsStart : List Finished
+pushedAtItsStart = finishedBy m1 (moved m1 4 0)
