@@ -1,0 +1,63 @@
+-- What a listing shows, read back from its text alone; its schedule file has the entries.
+use Prim.Native.Nat.{ℕ, _+_, _*_, _-_}
+use mathlib.Core.List.{List, [], _∷_, map}
+use lib.ListN.{getD, take, drop}
+use lib.Dec.{eqb}
+use Rattle.logic.specs.Pick.{pick}
+use Rattle.word.specs.Word.{wordOf}
+use Rattle.header.specs.Header.{partiesAt}
+use Rattle.history.specs.Run.{Line}
+use Rattle.history.specs.Finished.{Finished, finishedOf}
+use Rattle.schedule.specs.File.{entriesOf, callsOf}
+
+-- the byte goes in front of the first piece
+abbrev pub inFront : (byte : ℕ) (pieces : List (List ℕ)) → List (List ℕ)
+inFront byte [] = (byte ∷ []) ∷ []
+inFront byte (piece ∷ pieces) = (byte ∷ piece) ∷ pieces
+
+-- the pieces of a text, cut at every byte `at`
+unfoldable pub split : (at : ℕ) (text : List ℕ) → List (List ℕ)
+split at [] = [] ∷ []
+split at (byte ∷ text) = pick (eqb byte at) ([] ∷ split at text) (inFront byte (split at text))
+
+-- the number that digits spell behind the digits of a number
+unfoldable pub numberFrom : (number : ℕ) (digits : List ℕ) → ℕ
+numberFrom number [] = number
+numberFrom number (digit ∷ digits) = numberFrom (10 * number + (digit - 48)) digits
+
+-- the number that decimal digits spell, most first
+abbrev pub numberIn : (digits : List ℕ) → ℕ
+numberIn digits = numberFrom 0 digits
+
+-- the rows of a text
+abbrev pub rows : (text : List ℕ) → List (List ℕ)
+rows text = split 10 text
+
+-- what a row shows in field 0, 1, 2 .., with a space between each two
+abbrev pub fieldIn : (row : List ℕ) (i : ℕ) → ℕ
+fieldIn row i = numberIn (getD (split 32 row) i [])
+
+-- the line that a row shows: behind entry and party the number, the carried order and the effect; "-" reads as 0
+abbrev pub lineIn : (row : List ℕ) → Line
+lineIn row =
+    record {
+      number = fieldIn row 2;
+      carried = fieldIn row 3;
+      effect = fieldIn row 4;
+    }
+
+-- the lines of a listing: a row for each entry, behind the header's
+abbrev pub linesIn : (file text : List ℕ) → List Line
+linesIn file text = map lineIn (take (entriesOf file) (drop 1 (rows text)))
+
+-- the word that "value.counter" shows
+abbrev pub wordIn : (shown : List ℕ) → ℕ
+wordIn shown = wordOf (numberIn (getD (split 46 shown) 1 [])) (numberIn (getD (split 46 shown) 0 []))
+
+-- the words of the row behind the entries' rows, without its first field "cells"
+abbrev pub cellsIn : (file text : List ℕ) → List ℕ
+cellsIn file text = map wordIn (drop 1 (split 32 (getD (rows text) (entriesOf file + 1) [])))
+
+-- the finished operations that a listing shows
+abbrev pub finishedIn : (file text : List ℕ) → List Finished
+finishedIn file text = finishedOf (partiesAt file) (callsOf file) (linesIn file text)

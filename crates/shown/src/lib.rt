@@ -1,0 +1,1 @@
+// What a listing shows, read back from its text. No function stands here.
