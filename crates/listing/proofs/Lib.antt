@@ -1,2 +1,3 @@
 pub mod Words
+pub mod Bounds
 pub mod Longest

@@ -1,15 +1,12 @@
 -- Demand 3 of the C calls: what pds_start, pds_step and pds_withdraw answer, one after the other on one region of bytes, is explained
 -- by the plain strip; and so it is on what pds_lay left.
-use Prim.Native.Nat.{ℕ, suc, _≤_}
-use mathlib.Core.Path.{_≡_, refl, sym, _∙_, ap, ap₂, subst}
-use mathlib.Core.Bool.{true, not}
+use Prim.Native.Nat.{ℕ, _≤_}
+use mathlib.Core.Path.{_≡_, refl, _∙_, ap, subst}
+use mathlib.Core.Bool.{true}
 use mathlib.Core.List.{List, [], _∷_, map}
 use lib.ListN.{length, getD, drop}
-use lib.Dec.{eqb, leb}
-use borrow.Author.Tests.{leb-true, not-false}
 use native.Mathlib.Omega.{arith}
 use Rattle.logic.specs.Every.{Every}
-use Rattle.logic.proofs.Bools.{both, passed}
 use Rattle.party.specs.Answer.{numberOf, carriedOf}
 use Rattle.call.specs.Call.{Call, Fitting}
 use Rattle.plain.specs.Plain.{Plain, freshPlain}
@@ -17,12 +14,12 @@ use Rattle.strip.specs.Shape.{StandsFor}
 use Rattle.strip.proofs.Values.{fresh-stands-for}
 use Rattle.little.specs.Bytes.{AreBytes, bytesOf}
 use Rattle.header.specs.Header.{partiesAt, countsFit}
-use Rattle.format.specs.Format.{headerRefusal, lengthOf, sizesFit}
+use Rattle.format.specs.Format.{headerRefusal}
 use Rattle.format.specs.Spelling.{stripOf}
 use Rattle.on_image.specs.Intact.{AllIdle}
 use Rattle.format.specs.Fresh.{freshImage}
 use Rattle.image.specs.Calls.{imageOf, layOf}
-use Rattle.history.specs.Run.{State, Line, linesFrom, noCall}
+use Rattle.history.specs.Run.{Line, linesFrom, noCall}
 use Rattle.pds.specs.Packed.{PackedPromise}
 use Rattle.pds.proofs.Unpacked.{a-packed-answer-tells-its-number-and-order}
 use Rattle.on_image.specs.Run.{answersOn, imageAfter, firstOn}

@@ -11,7 +11,7 @@ use Rattle.party.specs.Answer.{numberOf, carriedOf}
 use Rattle.party.specs.declared.Answer.{Answer}
 use Rattle.party.proofs.Cleared.{max-within}
 use Rattle.step.specs.Step.{stripFits}
-use Rattle.call.specs.Call.{Call, Fitting, Left, callOf}
+use Rattle.call.specs.Call.{Call, Fitting, Left}
 use Rattle.plain.specs.Plain.{Plain}
 use Rattle.strip.specs.Shape.{StandsFor}
 use Rattle.little.specs.Bytes.{AreBytes}

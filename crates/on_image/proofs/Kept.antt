@@ -20,7 +20,7 @@ use Rattle.format.specs.Format.{partyPlace}
 use Rattle.format.specs.Spelling.{stripOf, tableOf, isSpare, spelled, RecordFits}
 use Rattle.on_image.specs.Intact.{Intact}
 use Rattle.format.proofs.Sizes.{same-header}
-use Rattle.format.proofs.Spelled.{strip-length, as-long, still-bytes, header-kept, version-kept, max-kept, spare-bytes-kept}
+use Rattle.format.proofs.Spelled.{strip-length, as-long, still-bytes, header-kept, max-kept, spare-bytes-kept}
 use Rattle.image.specs.Calls.{decoded, encoded, spareRefused, imageOf}
 use Rattle.image.proofs.Decoded.{spells, left-fits, strip-after-is-decoded, table-after-is-decoded}
 

@@ -1,15 +1,13 @@
 -- What lay leaves where it is not refused, and what pds_lay leaves where it answers 0: a fresh image.
 use Prim.Native.Nat.{ℕ, _≤_}
-use mathlib.Core.Path.{_≡_, refl, _∙_, ap}
+use mathlib.Core.Path.{_≡_, refl}
 use mathlib.Core.Bool.{Bool, true, false, not}
 use mathlib.Core.List.{List}
 use lib.ListN.{length}
 use lib.Dec.{eqb, leb}
-use borrow.Author.Tests.{eqb-true, eqb-false, leb-true, not-false}
+use borrow.Author.Tests.{eqb-true, leb-true, not-false}
 use native.Mathlib.Omega.{arith}
-use Rattle.logic.specs.Pick.{pick}
 use Rattle.logic.proofs.Bools.{both, passed}
-use Rattle.party.specs.Answer.{numberOf}
 use Rattle.header.specs.Header.{countsFit}
 use Rattle.format.specs.Format.{lengthOf, sizesFit}
 use Rattle.format.specs.Fresh.{freshImage}
