@@ -1,13 +1,16 @@
 -- What an entry asks for, act by act.
-use Prim.Native.Nat.{ℕ}
+use Prim.Native.Nat.{ℕ, _+_}
 use mathlib.Core.Path.{_≡_, refl}
 use mathlib.Core.Bool.{Bool, true, false, not}
 use mathlib.Core.List.{List}
 use lib.Dec.{eqb}
 use borrow.Author.Tests.{eq-eqb, ne-eqb, not-true, not-false}
+use native.Mathlib.Omega.{arith}
 use Rattle.logic.specs.Pick.{pick}
 use Rattle.logic.proofs.Bools.{whichever}
-use Rattle.call.specs.Call.{Call, partyOf}
+use Rattle.little.specs.Bytes.{AreBytes}
+use Rattle.little.proofs.Digits.{number-fits}
+use Rattle.call.specs.Call.{Call, partyOf, Fitting}
 use Rattle.entry.specs.Entry.{actAt, partyAt, operationAt, zeroAt, wordAt, isKnown, unknown, callAt}
 
 module _ (bytes : List ℕ) (at number : ℕ) (known : Bool) (reads : number ≡ wordAt bytes at)
@@ -52,3 +55,11 @@ party-is bytes at =
   where
     P : Call → Type 0
     P call = partyOf call ≡ partyAt bytes at
+
+-- An order in bytes is 32 bits wide.
+pub order-fits : (bytes : List ℕ) (at : ℕ) → AreBytes bytes → Fitting (callAt bytes at)
+unfolding callAt
+order-fits bytes at are =
+    whichever Fitting (isKnown (actAt bytes at) (operationAt bytes at) (zeroAt bytes at) (wordAt bytes at))
+    (whichever Fitting (eqb (actAt bytes at) 0) (number-fits 4 bytes (at + 4) are) (whichever Fitting (eqb (actAt bytes at) 1) tt tt))
+    (omega arith)

@@ -17,7 +17,7 @@ use Rattle.strip.specs.Shape.{StandsFor, Shaped}
 use Rattle.strip.specs.Lay.{freshStrip}
 use Rattle.strip.specs.Measure.{measureOf}
 use Rattle.strip.specs.declared.Measured.the-variants.{Shape}
-use Rattle.strip.proofs.Laying.{fresh-length}
+use Rattle.strip.proofs.Laying.{fresh-length, fresh-words}
 use Rattle.strip.proofs.Shapes.{a-strip-stands-for-one-plain-strip}
 use Rattle.strip.proofs.Values.{fresh-stands-for}
 use Rattle.strip.proofs.MeasureShapes.{measure-gives-the-plain-strip}
@@ -72,6 +72,11 @@ module _ (max divide parties : ℕ) (calls : List Call) (some : 1 ≤ max) (smal
   every-schedule-on-a-fresh-strip-is-explained =
       every-schedule-is-explained (freshStrip max divide) (freshPlain max divide) parties calls fresh-fits
       (fresh-stands-for max divide) fitting
+
+  pub no-counter-comes-round-on-a-fresh-strip : Every IsWord 0 (endFrom (begin (freshStrip max divide) parties) 0 calls .strip)
+  no-counter-comes-round-on-a-fresh-strip =
+      no-counter-comes-round-in-a-schedule (freshStrip max divide) (freshPlain max divide) parties calls fresh-fits
+      (fresh-stands-for max divide) fitting (fresh-words max divide inside)
 
   -- The accounts are closed after any number of entries, for each order.
   pub the-accounts-are-closed-after-every-entry : (n : ℕ) (q : Plain)

@@ -8,16 +8,14 @@ use lib.Seq.{sets, getD-append-add}
 use lib.Dec.{leb}
 use borrow.Author.Tests.{eqb-true, eq-eqb, leb-true, le-ltb}
 use native.Mathlib.Omega.{arith}
-use Rattle.logic.specs.Every.{Every}
-use Rattle.logic.proofs.Bools.{both, whichever}
+use Rattle.logic.proofs.Bools.{both}
 use Rattle.logic.proofs.Lists.{all-the-same}
-use Rattle.word.specs.Word.{IsWord}
 use Rattle.record.specs.Record.{idle}
 use Rattle.party.specs.Calls.{maxFits}
 use Rattle.party.proofs.Cleared.{max-within}
 use Rattle.call.specs.Call.{tableFits}
 use Rattle.strip.specs.Lay.{freshStrip}
-use Rattle.strip.proofs.Laying.{fresh-length, fresh-at}
+use Rattle.strip.proofs.Laying.{fresh-length, fresh-words}
 use Rattle.little.specs.Bytes.{AreBytes, numberAt, bytesOf}
 use Rattle.little.proofs.Runs.{middle-run}
 use Rattle.little.proofs.Digits.{digits-are-bytes}
@@ -115,11 +113,6 @@ module _ (version max parties divide : ℕ) (known : isKnown version ≡ true) (
       rw place
       (getD-append-add header (words ++ zeros) (length words + i) 0 ∙ getD-append-add words zeros i 0 ∙ all-the-same {A = ℕ} (32 * parties) i 0)
 
-  fresh-words-fit : Every IsWord 0 (freshStrip max divide)
-  fresh-words-fit i below =
-      rw (fresh-at max divide inside i (rw (fresh-length max divide inside) at below))
-      (whichever IsWord (leb i divide) (omega arith) (omega arith))
-
   pub fresh-spells-fresh : stripOf image ≡ freshStrip max divide
   fresh-spells-fresh =
       let under : List ℕ = replicate (8 * (max + 2)) 0 in
@@ -135,7 +128,7 @@ module _ (version max parties divide : ℕ) (known : isKnown version ≡ true) (
       ap (λ (count : ℕ). wordsFrom image wordsBase count) (ap (λ (n : ℕ). n + 2) max-is ∙ sym (fresh-length max divide inside))
       ∙ words-are-parts (length (freshStrip max divide)) image wordsBase
       ∙ ap (λ (l : List ℕ). partsFrom wordPart l wordsBase (length (freshStrip max divide))) parts
-      ∙ laid-parts-read wordPart 0 (freshStrip max divide) blank wordsBase fresh-words-fit
+      ∙ laid-parts-read wordPart 0 (freshStrip max divide) blank wordsBase (fresh-words max divide inside)
       (omega (arith, room, fresh-length max divide inside))
 
   -- A fresh image is intact, spells the fresh strip, and every party of it is idle.

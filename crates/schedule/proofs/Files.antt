@@ -1,21 +1,23 @@
 -- What is known of a schedule file that no check refused, and that its listing has room in the longest.
-use Prim.Native.Nat.{ℕ, zero, suc, _+_, _-_, _%_, _≤_, _<_}
+use Prim.Native.Nat.{ℕ, zero, suc, _+_, _-_, _%_, _≤_}
 use mathlib.Core.Path.{_≡_, refl, _∙_, ap}
 use mathlib.Core.Bool.{not, _&&_}
 use mathlib.Core.List.{List, _++_}
-use lib.ListN.{length, getD}
+use lib.ListN.{length}
 use lib.Dec.{eqb, leb, ltb}
 use borrow.Author.Tests.{ltb-false, leb-true, le-leb, eqb-true, not-false}
 use native.Mathlib.Omega.{arith}
 use Rattle.logic.specs.Every.{Every}
 use Rattle.logic.proofs.Bools.{both, passed}
+use Rattle.little.specs.Bytes.{AreBytes}
 use Rattle.text.specs.Writing.{Room}
 use Rattle.party.specs.Calls.{maxFits}
-use Rattle.call.specs.Call.{tableFits}
+use Rattle.call.specs.Call.{Call, Fitting, tableFits}
 use Rattle.strip.specs.Lay.{freshStrip, layRefusal, layLeaves, LayPromise}
 use Rattle.strip.specs.declared.Laid.{Laid}
 use Rattle.strip.proofs.Laying.{laid-leaves}
-use Rattle.entry.proofs.Asks.{party-is}
+use Rattle.entry.specs.Entry.{callAt}
+use Rattle.entry.proofs.Asks.{party-is, order-fits}
 use Rattle.history.specs.Run.{noCall, endFrom}
 use Rattle.listing.specs.Listing.{runText, headerText, cellsText, listingText, longest}
 use Rattle.listing.proofs.Longest.{Narrow, no-listing-is-longer}
@@ -73,26 +75,34 @@ linesIn file = runText (firstOf file) 0 (callsOf file)
 abbrev pub cellsIn : (file : List ℕ) → List ℕ
 cellsIn file = cellsText (endFrom (firstOf file) 0 (callsOf file) .strip)
 
-calls-count : (file : List ℕ) (at count : ℕ) → length (callsFrom file at count) ≡ count
+pub calls-count : (file : List ℕ) (at count : ℕ) → length (callsFrom file at count) ≡ count
 unfolding callsFrom
 calls-count file at zero = refl
 calls-count file at (suc count) = ap suc (calls-count file (at + 8) count)
 
+-- what holds of the call at every place holds of every call
+every-call : (P : Call → Type 0) (file : List ℕ) → ((at : ℕ) → P (callAt file at)) → (at count : ℕ)
+    → Every P noCall (callsFrom file at count)
+unfolding callsFrom
+every-call P file holds at zero i within = absurd (omega arith)
+every-call P file holds at (suc count) zero within = holds at
+every-call P file holds at (suc count) (suc i) within = every-call P file holds (at + 8) count i (omega arith)
+
 -- What is said of a file's listing holds of bytes.
-module _ (file : List ℕ) (passes : fileRefusal file ≡ 0) (bytes : (i : ℕ) → getD file i 0 < 256) where
+module _ (file : List ℕ) (passes : fileRefusal file ≡ 0) (bytes : AreBytes file) where
   -- the party of an entry is a byte
-  calls-narrow : (at count : ℕ) → Every Narrow noCall (callsFrom file at count)
-  unfolding callsFrom
-  calls-narrow at zero i within = absurd (omega arith)
-  calls-narrow at (suc count) zero within = rw (party-is file at) (bytes (at + 1))
-  calls-narrow at (suc count) (suc i) within = calls-narrow (at + 8) count i (omega arith)
+  calls-narrow : Every Narrow noCall (callsOf file)
+  calls-narrow = every-call Narrow file (λ at. rw (party-is file at) (bytes (at + 1))) 10 (entriesOf file)
+
+  pub calls-fit : Every Fitting noCall (callsOf file)
+  calls-fit = every-call Fitting file (λ at. order-fits file at bytes) 10 (entriesOf file)
 
   -- The longest is long enough.
   pub the-listing-fits : length (listingOf file) ≤ longest
   the-listing-fits =
       let l = listable file passes in
       no-listing-is-longer (maxAt file) (divideAt file) (partiesAt file) (callsOf file) (l .max-high) (l .inside) (l .parties-high)
-      (rw (calls-count file 10 (entriesOf file)) (l .few)) (calls-narrow 10 (entriesOf file))
+      (rw (calls-count file 10 (entriesOf file)) (l .few)) calls-narrow
 
   -- the room that a listing wants, piece by piece
   pub room-to-list : (out : List ℕ) → longest ≤ length out → Room (headerIn file ++ (linesIn file ++ cellsIn file)) out 0

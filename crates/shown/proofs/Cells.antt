@@ -10,7 +10,7 @@ use Rattle.logic.specs.Every.{Every}
 use Rattle.word.specs.Word.{IsWord, valueOf, counterOf}
 use Rattle.text.specs.Text.{decimal}
 use Rattle.listing.specs.Listing.{wordText, wordsText, cellsText}
-use Rattle.shown.specs.Shown.{split, numberIn, rows, wordIn}
+use Rattle.shown.specs.Shown.{split, numberIn, rows, shownWord}
 use Rattle.shown.proofs.Splitting.{lacks, lacks-both, digits-lack, first-piece, only-piece}
 use Rattle.shown.proofs.Numbers.{digits-spell-the-number}
 
@@ -18,7 +18,7 @@ use Rattle.shown.proofs.Numbers.{digits-spell-the-number}
 abbrev fieldOf : (word : ℕ) → List ℕ
 fieldOf word = decimal (valueOf word) ++ (46 ∷ decimal (counterOf word))
 
-field-shows-the-word : (word : ℕ) → IsWord word → wordIn (fieldOf word) ≡ word
+field-shows-the-word : (word : ℕ) → IsWord word → shownWord (fieldOf word) ≡ word
 field-shows-the-word word fits =
     let value = decimal (valueOf word) in
     let counter = decimal (counterOf word) in
@@ -27,7 +27,7 @@ field-shows-the-word word fits =
     rw (cut, digits-spell-the-number 9 (valueOf word) (omega arith), digits-spell-the-number 9 (counterOf word) (omega arith))
     (omega arith)
 
-fields-show-the-words : (words : List ℕ) → Every IsWord 0 words → map wordIn (map fieldOf words) ≡ words
+fields-show-the-words : (words : List ℕ) → Every IsWord 0 words → map shownWord (map fieldOf words) ≡ words
 fields-show-the-words [] fit = refl
 fields-show-the-words (word ∷ words) fit =
     rw (field-shows-the-word word (fit 0 (omega arith)), fields-show-the-words words (λ i within. fit (suc i) (omega arith))) refl
@@ -61,7 +61,7 @@ row-is-cut front (word ∷ words) e =
     ∙ ap (λ (rest : List (List ℕ)). front ∷ rest) (row-is-cut (fieldOf word) words (field-lacks 32 word (omega arith)))
 
 abbrev pub shownCells : (row : List ℕ) → List ℕ
-shownCells row = map wordIn (drop 1 (split 32 row))
+shownCells row = map shownWord (drop 1 (split 32 row))
 
 pub cells-are-shown : (strip : List ℕ) → Every IsWord 0 strip → shownCells (getD (rows (cellsText strip)) 0 []) ≡ strip
 unfolding lacks

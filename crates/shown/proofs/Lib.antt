@@ -1,3 +1,4 @@
 pub mod Splitting
 pub mod Numbers
 pub mod Cells
+pub mod Lines

@@ -34,29 +34,29 @@ abbrev pub rows : (text : List ℕ) → List (List ℕ)
 rows text = split 10 text
 
 -- what a row shows in field 0, 1, 2 .., with a space between each two
-abbrev pub fieldIn : (row : List ℕ) (i : ℕ) → ℕ
-fieldIn row i = numberIn (getD (split 32 row) i [])
+abbrev pub shownField : (row : List ℕ) (i : ℕ) → ℕ
+shownField row i = numberIn (getD (split 32 row) i [])
 
 -- the line that a row shows: behind entry and party the number, the carried order and the effect; "-" reads as 0
-abbrev pub lineIn : (row : List ℕ) → Line
-lineIn row =
+abbrev pub shownLine : (row : List ℕ) → Line
+shownLine row =
     record {
-      number = fieldIn row 2;
-      carried = fieldIn row 3;
-      effect = fieldIn row 4;
+      number = shownField row 2;
+      carried = shownField row 3;
+      effect = shownField row 4;
     }
 
 -- the lines of a listing: a row for each entry, behind the header's
 abbrev pub linesIn : (file text : List ℕ) → List Line
-linesIn file text = map lineIn (take (entriesOf file) (drop 1 (rows text)))
+linesIn file text = map shownLine (take (entriesOf file) (drop 1 (rows text)))
 
 -- the word that "value.counter" shows
-abbrev pub wordIn : (shown : List ℕ) → ℕ
-wordIn shown = wordOf (numberIn (getD (split 46 shown) 1 [])) (numberIn (getD (split 46 shown) 0 []))
+abbrev pub shownWord : (text : List ℕ) → ℕ
+shownWord text = wordOf (numberIn (getD (split 46 text) 1 [])) (numberIn (getD (split 46 text) 0 []))
 
 -- the words of the row behind the entries' rows, without its first field "cells"
 abbrev pub cellsIn : (file text : List ℕ) → List ℕ
-cellsIn file text = map wordIn (drop 1 (split 32 (getD (rows text) (entriesOf file + 1) [])))
+cellsIn file text = map shownWord (drop 1 (split 32 (getD (rows text) (entriesOf file + 1) [])))
 
 -- the finished operations that a listing shows
 abbrev pub finishedIn : (file text : List ℕ) → List Finished

@@ -8,7 +8,9 @@ use lib.Dec.{eqb, leb}
 use borrow.Author.Tests.{leb-true, leb-false, not-false, eqb-true, eq-eqb, ne-eqb}
 use native.Mathlib.Omega.{arith}
 use Rattle.logic.specs.Pick.{pick}
-use Rattle.logic.proofs.Bools.{passed}
+use Rattle.logic.specs.Every.{Every}
+use Rattle.logic.proofs.Bools.{passed, whichever}
+use Rattle.word.specs.Word.{IsWord}
 use Rattle.step.specs.Step.{stripFits, maxOf}
 use Rattle.strip.specs.Lay.{freshStrip, layRefusal, layLeaves, laidOf, laidNumber}
 use Rattle.strip.specs.declared.Laid.the-variants.{Fresh, NotLaid}
@@ -72,3 +74,8 @@ module _ (max divide : ℕ) (inside : divide ≤ max) where
           let high = leb-false i divide e in
           let long = length-replicate {A = ℕ} (divide + 1) 0 in
           getD-past left right i 0 (omega arith) ∙ getD-replicate (max - divide + 1) (i - length left) 1 0 (omega arith)
+
+  -- every word of it is a word
+  pub fresh-words : Every IsWord 0 (freshStrip max divide)
+  fresh-words i within =
+      rw (fresh-at i (omega (arith, fresh-length))) (whichever IsWord (leb i divide) (omega arith) (omega arith))

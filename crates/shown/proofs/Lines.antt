@@ -1,0 +1,104 @@
+-- The lines that a listing shows are the run's, each with its effect where it is a result.
+use Prim.Native.Nat.{ℕ, suc, _+_, _<_}
+use mathlib.Core.Path.{_≡_, refl, _∙_, ap, ap₂}
+use mathlib.Core.Bool.{Bool, true, false, _&&_}
+use mathlib.Core.List.{List, [], _∷_, _++_, map, append-assoc}
+use lib.ListN.{length, getD}
+use borrow.Author.Tests.{ne-eqb}
+use native.Mathlib.Omega.{arith}
+use Rattle.logic.specs.Pick.{pick}
+use Rattle.logic.specs.Every.{Every}
+use Rattle.logic.proofs.Bools.{whichever}
+use Rattle.text.specs.Text.{decimal, spaced}
+use Rattle.call.specs.Call.{Call, partyOf}
+use Rattle.history.specs.Run.{State, Line, lineOf, leaves, linesFrom}
+use Rattle.history.specs.Finished.{Asked, isResult, askedAfter, finishedAt, finishedFrom}
+use Rattle.listing.specs.Listing.{effectText, lineText, linesText, runText}
+use Rattle.listing.proofs.Bounds.{Bounded, noLine}
+use Rattle.shown.specs.Shown.{split, numberFrom, numberIn, rows, shownLine}
+use Rattle.shown.proofs.Splitting.{lacks, lacks-both, digits-lack, first-piece, only-piece}
+use Rattle.shown.proofs.Numbers.{digits-spell-the-number}
+
+-- a line as it is shown: without a result its effect is 0
+abbrev pub asShown : Line → Line
+asShown line =
+    record {
+      number = line .number;
+      carried = line .carried;
+      effect = pick (isResult (line .number)) (line .effect) 0;
+    }
+
+effect-lacks : (at : ℕ) (line : Line) → at < 45 → lacks at (effectText line) ≡ true
+unfolding lacks
+effect-lacks at line below =
+    whichever (λ (text : List ℕ). lacks at text ≡ true) (isResult (line .number)) (digits-lack at (omega arith) 9 (line .effect))
+    (rw (ne-eqb 45 at (λ e. omega arith)) refl)
+
+effect-is-shown : (line : Line) → line .effect < 2048 → numberIn (effectText line) ≡ asShown line .effect
+unfolding numberFrom
+effect-is-shown line small = go (isResult (line .number))
+  where
+    go : (result : Bool) → numberIn (pick result (decimal (line .effect)) (45 ∷ [])) ≡ pick result (line .effect) 0
+    go true = digits-spell-the-number 9 (line .effect) (omega arith)
+    go false = refl
+
+module _ (entry : ℕ) (call : Call) (line : Line) where
+  -- a line's text without the end of its row
+  abbrev rowOf : List ℕ
+  rowOf = decimal entry ++ (spaced (partyOf call) ++ (spaced (line .number) ++ (spaced (line .carried) ++ (32 ∷ effectText line))))
+
+  row-ends : (rest : List ℕ) → lineText entry call line ++ rest ≡ rowOf ++ (10 ∷ rest)
+  row-ends rest = simp append-assoc
+
+  row-goes-on : lacks 10 rowOf ≡ true
+  unfolding lacks
+  row-goes-on = simp (lacks-both 10, digits-lack 10 (omega arith), effect-lacks 10 line (omega arith))
+
+  number-first : (number : ℕ) (rest : List ℕ) → split 32 (decimal number ++ (32 ∷ rest)) ≡ decimal number ∷ split 32 rest
+  number-first number rest = first-piece 32 (decimal number) rest (digits-lack 32 (omega arith) 9 number)
+
+  row-is-cut : split 32 rowOf
+      ≡ decimal entry ∷ decimal (partyOf call) ∷ decimal (line .number) ∷ decimal (line .carried) ∷ effectText line ∷ []
+  row-is-cut =
+      rw (number-first entry, number-first (partyOf call), number-first (line .number), number-first (line .carried),
+        only-piece 32 (effectText line) (effect-lacks 32 line (omega arith))) refl
+
+  line-is-shown : Bounded line → shownLine rowOf ≡ asShown line
+  line-is-shown bounded =
+      rw (row-is-cut, digits-spell-the-number 9 (line .number) (omega (arith, bounded .number-is)),
+        digits-spell-the-number 9 (line .carried) (omega (arith, bounded .carried-is)), effect-is-shown line (bounded .effect-is)) refl
+
+-- a row for each entry of a run
+unfoldable pub rowsFrom : State → (entry : ℕ) → List Call → List (List ℕ)
+rowsFrom s entry [] = []
+rowsFrom s entry (call ∷ calls) = rowOf entry call (lineOf s entry call) ∷ rowsFrom (leaves s entry call) (suc entry) calls
+
+pub each-entry-has-a-row : (s : State) (entry : ℕ) (calls : List Call) → length (rowsFrom s entry calls) ≡ length calls
+unfolding rowsFrom
+each-entry-has-a-row s entry [] = refl
+each-entry-has-a-row s entry (call ∷ calls) = ap suc (each-entry-has-a-row (leaves s entry call) (suc entry) calls)
+
+pub run-is-rows : (s : State) (entry : ℕ) (calls : List Call) (rest : List ℕ)
+    → rows (runText s entry calls ++ rest) ≡ rowsFrom s entry calls ++ rows rest
+unfolding rowsFrom linesFrom linesText
+run-is-rows s entry [] rest = refl
+run-is-rows s entry (call ∷ calls) rest =
+    let line = lineOf s entry call in
+    let later = runText (leaves s entry call) (suc entry) calls in
+    rw (append-assoc (lineText entry call line) later rest, row-ends entry call line (later ++ rest),
+      first-piece 10 (rowOf entry call line) (later ++ rest) (row-goes-on entry call line),
+      run-is-rows (leaves s entry call) (suc entry) calls rest) refl
+
+pub lines-are-shown : (s : State) (entry : ℕ) (calls : List Call) → Every Bounded noLine (linesFrom s entry calls)
+    → map shownLine (rowsFrom s entry calls) ≡ map asShown (linesFrom s entry calls)
+unfolding rowsFrom linesFrom
+lines-are-shown s entry [] bounded = refl
+lines-are-shown s entry (call ∷ calls) bounded =
+    ap₂ (λ (line : Line) (lines : List Line). line ∷ lines) (line-is-shown entry call (lineOf s entry call) (bounded 0 (omega arith)))
+    (lines-are-shown (leaves s entry call) (suc entry) calls (λ i within. bounded (suc i) (omega arith)))
+
+asked-as-shown : (asked : List Asked) (entry : ℕ) (call : Call) (line : Line)
+    → askedAfter asked entry call (asShown line) ≡ askedAfter asked entry call line
+asked-as-shown asked entry (Call.start party operation order) line = refl
+asked-as-shown asked entry (Call.step party hint) line = refl
+asked-as-shown asked entry (Call.withdraw party) line = refl
