@@ -80,29 +80,29 @@ unfolding callsFrom
 calls-count file at zero = refl
 calls-count file at (suc count) = ap suc (calls-count file (at + 8) count)
 
--- what holds of the call at every place holds of every call
-every-call : (P : Call → Type 0) (file : List ℕ) → ((at : ℕ) → P (callAt file at)) → (at count : ℕ)
-    → Every P noCall (callsFrom file at count)
-unfolding callsFrom
-every-call P file holds at zero i within = absurd (omega arith)
-every-call P file holds at (suc count) zero within = holds at
-every-call P file holds at (suc count) (suc i) within = every-call P file holds (at + 8) count i (omega arith)
+-- What holds of the call at every place holds of every call of the file.
+module _ (P : Call → Type 0) (file : List ℕ) (holds : (at : ℕ) → P (callAt file at)) where
+  every-call : (at count : ℕ) → Every P noCall (callsFrom file at count)
+  unfolding callsFrom
+  every-call at zero i within = absurd (omega arith)
+  every-call at (suc count) zero within = holds at
+  every-call at (suc count) (suc i) within = every-call (at + 8) count i (omega arith)
+
+-- the party of an entry is a byte, its order 32 bits
+calls-narrow : (file : List ℕ) → AreBytes file → Every Narrow noCall (callsOf file)
+calls-narrow file bytes = every-call Narrow file (λ at. rw (party-is file at) (bytes (at + 1))) 10 (entriesOf file)
+
+pub calls-fit : (file : List ℕ) → AreBytes file → Every Fitting noCall (callsOf file)
+calls-fit file bytes = every-call Fitting file (λ at. order-fits file at bytes) 10 (entriesOf file)
 
 -- What is said of a file's listing holds of bytes.
 module _ (file : List ℕ) (passes : fileRefusal file ≡ 0) (bytes : AreBytes file) where
-  -- the party of an entry is a byte
-  calls-narrow : Every Narrow noCall (callsOf file)
-  calls-narrow = every-call Narrow file (λ at. rw (party-is file at) (bytes (at + 1))) 10 (entriesOf file)
-
-  pub calls-fit : Every Fitting noCall (callsOf file)
-  calls-fit = every-call Fitting file (λ at. order-fits file at bytes) 10 (entriesOf file)
-
   -- The longest is long enough.
   pub the-listing-fits : length (listingOf file) ≤ longest
   the-listing-fits =
       let l = listable file passes in
       no-listing-is-longer (maxAt file) (divideAt file) (partiesAt file) (callsOf file) (l .max-high) (l .inside) (l .parties-high)
-      (rw (calls-count file 10 (entriesOf file)) (l .few)) calls-narrow
+      (rw (calls-count file 10 (entriesOf file)) (l .few)) (calls-narrow file bytes)
 
   -- the room that a listing wants, piece by piece
   pub room-to-list : (out : List ℕ) → longest ≤ length out → Room (headerIn file ++ (linesIn file ++ cellsIn file)) out 0

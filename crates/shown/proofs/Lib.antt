@@ -2,3 +2,6 @@ pub mod Splitting
 pub mod Numbers
 pub mod Cells
 pub mod Lines
+pub mod Rows
+pub mod Finishing
+pub mod EveryListing

@@ -1,9 +1,9 @@
 -- The lines that a listing shows are the run's, each with its effect where it is a result.
-use Prim.Native.Nat.{ℕ, suc, _+_, _<_}
-use mathlib.Core.Path.{_≡_, refl, _∙_, ap, ap₂}
-use mathlib.Core.Bool.{Bool, true, false, _&&_}
+use Prim.Native.Nat.{ℕ, suc, _<_}
+use mathlib.Core.Path.{_≡_, refl, ap, ap₂}
+use mathlib.Core.Bool.{Bool, true, false}
 use mathlib.Core.List.{List, [], _∷_, _++_, map, append-assoc}
-use lib.ListN.{length, getD}
+use lib.ListN.{length}
 use borrow.Author.Tests.{ne-eqb}
 use native.Mathlib.Omega.{arith}
 use Rattle.logic.specs.Pick.{pick}
@@ -12,11 +12,11 @@ use Rattle.logic.proofs.Bools.{whichever}
 use Rattle.text.specs.Text.{decimal, spaced}
 use Rattle.call.specs.Call.{Call, partyOf}
 use Rattle.history.specs.Run.{State, Line, lineOf, leaves, linesFrom}
-use Rattle.history.specs.Finished.{Asked, isResult, askedAfter, finishedAt, finishedFrom}
+use Rattle.history.specs.Finished.{isResult}
 use Rattle.listing.specs.Listing.{effectText, lineText, linesText, runText}
 use Rattle.listing.proofs.Bounds.{Bounded, noLine}
 use Rattle.shown.specs.Shown.{split, numberFrom, numberIn, rows, shownLine}
-use Rattle.shown.proofs.Splitting.{lacks, lacks-both, digits-lack, first-piece, only-piece}
+use Rattle.shown.proofs.Splitting.{lacks, lacks-both, digits-lack, first-piece, only-piece, number-first}
 use Rattle.shown.proofs.Numbers.{digits-spell-the-number}
 
 -- a line as it is shown: without a result its effect is 0
@@ -44,34 +44,34 @@ effect-is-shown line small = go (isResult (line .number))
 
 module _ (entry : ℕ) (call : Call) (line : Line) where
   -- a line's text without the end of its row
-  abbrev rowOf : List ℕ
-  rowOf = decimal entry ++ (spaced (partyOf call) ++ (spaced (line .number) ++ (spaced (line .carried) ++ (32 ∷ effectText line))))
+  abbrev lineRow : List ℕ
+  lineRow = decimal entry ++ (spaced (partyOf call) ++ (spaced (line .number) ++ (spaced (line .carried) ++ (32 ∷ effectText line))))
 
-  row-ends : (rest : List ℕ) → lineText entry call line ++ rest ≡ rowOf ++ (10 ∷ rest)
-  row-ends rest = simp append-assoc
+  line-ends : (rest : List ℕ) → lineText entry call line ++ rest ≡ lineRow ++ (10 ∷ rest)
+  line-ends rest = simp append-assoc
 
-  row-goes-on : lacks 10 rowOf ≡ true
+  line-goes-on : lacks 10 lineRow ≡ true
   unfolding lacks
-  row-goes-on = simp (lacks-both 10, digits-lack 10 (omega arith), effect-lacks 10 line (omega arith))
+  line-goes-on = simp (lacks-both 10, digits-lack 10 (omega arith), effect-lacks 10 line (omega arith))
 
-  number-first : (number : ℕ) (rest : List ℕ) → split 32 (decimal number ++ (32 ∷ rest)) ≡ decimal number ∷ split 32 rest
-  number-first number rest = first-piece 32 (decimal number) rest (digits-lack 32 (omega arith) 9 number)
-
-  row-is-cut : split 32 rowOf
+  line-is-cut : split 32 lineRow
       ≡ decimal entry ∷ decimal (partyOf call) ∷ decimal (line .number) ∷ decimal (line .carried) ∷ effectText line ∷ []
-  row-is-cut =
-      rw (number-first entry, number-first (partyOf call), number-first (line .number), number-first (line .carried),
-        only-piece 32 (effectText line) (effect-lacks 32 line (omega arith))) refl
+  line-is-cut =
+      simp (number-first 32 (omega arith), only-piece 32 (effectText line) (effect-lacks 32 line (omega arith)))
 
-  line-is-shown : Bounded line → shownLine rowOf ≡ asShown line
+  line-is-shown : Bounded line → shownLine lineRow ≡ asShown line
   line-is-shown bounded =
-      rw (row-is-cut, digits-spell-the-number 9 (line .number) (omega (arith, bounded .number-is)),
-        digits-spell-the-number 9 (line .carried) (omega (arith, bounded .carried-is)), effect-is-shown line (bounded .effect-is)) refl
+      rw (
+        line-is-cut,
+        digits-spell-the-number 9 (line .number) (omega (arith, bounded .number-is)),
+        digits-spell-the-number 9 (line .carried) (omega (arith, bounded .carried-is)),
+        effect-is-shown line (bounded .effect-is),
+      ) refl
 
 -- a row for each entry of a run
 unfoldable pub rowsFrom : State → (entry : ℕ) → List Call → List (List ℕ)
 rowsFrom s entry [] = []
-rowsFrom s entry (call ∷ calls) = rowOf entry call (lineOf s entry call) ∷ rowsFrom (leaves s entry call) (suc entry) calls
+rowsFrom s entry (call ∷ calls) = lineRow entry call (lineOf s entry call) ∷ rowsFrom (leaves s entry call) (suc entry) calls
 
 pub each-entry-has-a-row : (s : State) (entry : ℕ) (calls : List Call) → length (rowsFrom s entry calls) ≡ length calls
 unfolding rowsFrom
@@ -85,9 +85,12 @@ run-is-rows s entry [] rest = refl
 run-is-rows s entry (call ∷ calls) rest =
     let line = lineOf s entry call in
     let later = runText (leaves s entry call) (suc entry) calls in
-    rw (append-assoc (lineText entry call line) later rest, row-ends entry call line (later ++ rest),
-      first-piece 10 (rowOf entry call line) (later ++ rest) (row-goes-on entry call line),
-      run-is-rows (leaves s entry call) (suc entry) calls rest) refl
+    rw (
+      append-assoc (lineText entry call line) later rest,
+      line-ends entry call line (later ++ rest),
+      first-piece 10 (lineRow entry call line) (later ++ rest) (line-goes-on entry call line),
+      run-is-rows (leaves s entry call) (suc entry) calls rest,
+    ) refl
 
 pub lines-are-shown : (s : State) (entry : ℕ) (calls : List Call) → Every Bounded noLine (linesFrom s entry calls)
     → map shownLine (rowsFrom s entry calls) ≡ map asShown (linesFrom s entry calls)
@@ -96,9 +99,3 @@ lines-are-shown s entry [] bounded = refl
 lines-are-shown s entry (call ∷ calls) bounded =
     ap₂ (λ (line : Line) (lines : List Line). line ∷ lines) (line-is-shown entry call (lineOf s entry call) (bounded 0 (omega arith)))
     (lines-are-shown (leaves s entry call) (suc entry) calls (λ i within. bounded (suc i) (omega arith)))
-
-asked-as-shown : (asked : List Asked) (entry : ℕ) (call : Call) (line : Line)
-    → askedAfter asked entry call (asShown line) ≡ askedAfter asked entry call line
-asked-as-shown asked entry (Call.start party operation order) line = refl
-asked-as-shown asked entry (Call.step party hint) line = refl
-asked-as-shown asked entry (Call.withdraw party) line = refl

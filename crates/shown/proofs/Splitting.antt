@@ -6,9 +6,8 @@ use mathlib.Core.List.{List, [], _∷_, _++_}
 use lib.Dec.{eqb, ltb}
 use borrow.Author.Tests.{eq-eqb, ne-eqb, not-true}
 use native.Mathlib.Omega.{arith}
-use Rattle.logic.specs.Pick.{pick}
 use Rattle.logic.proofs.Bools.{both, whichever}
-use Rattle.text.specs.Text.{digitsOf}
+use Rattle.text.specs.Text.{digitsOf, decimal}
 use Rattle.shown.specs.Shown.{split}
 
 -- the byte stands nowhere in the text
@@ -50,3 +49,6 @@ module _ (at : ℕ) where
   only-piece (x ∷ a) e =
       let each = both (not (eqb x at)) (lacks at a) e in
       rw (not-true (eqb x at) (each .0), only-piece a (each .1)) refl
+
+  pub number-first : at < 48 → (number : ℕ) (rest : List ℕ) → split at (decimal number ++ (at ∷ rest)) ≡ decimal number ∷ split at rest
+  number-first below number rest = first-piece (decimal number) rest (digits-lack below 9 number)

@@ -1,0 +1,89 @@
+-- Demand 3 of the listing itself: whatever a schedule file, if it is of bytes and no check refuses it, what its listing shows is
+-- explained by the plain strip.
+use Prim.Native.Nat.{ℕ}
+use mathlib.Core.Path.{_≡_, sym, _∙_, subst}
+use mathlib.Core.List.{List, [], _∷_, map}
+use lib.ListN.{length}
+use lib.Seq.{take-at, getD-at}
+use native.Mathlib.Numerals.{add-one}
+use Rattle.logic.specs.Every.{Every}
+use Rattle.little.specs.Bytes.{AreBytes}
+use Rattle.word.specs.Word.{IsWord}
+use Rattle.call.specs.Call.{Call}
+use Rattle.plain.specs.Plain.{Plain, freshPlain}
+use Rattle.strip.specs.Shape.{StandsFor}
+use Rattle.header.specs.Header.{partiesAt, maxAt}
+use Rattle.history.specs.Run.{Line, linesFrom, endFrom}
+use Rattle.history.specs.Finished.{Finished, finishedOf}
+use Rattle.history.specs.Explained.{Explained}
+use Rattle.history.proofs.EverySchedule.{every-schedule-on-a-fresh-strip-is-explained, no-counter-comes-round-on-a-fresh-strip}
+use Rattle.listing.proofs.Bounds.{lines-are-bounded}
+use Rattle.schedule.specs.File.{divideAt, entriesOf, fileRefusal, callsOf}
+use Rattle.schedule.specs.List.{listingOf, firstOf}
+use Rattle.schedule.proofs.Files.{Listable, listable, calls-count, calls-fit}
+use Rattle.shown.specs.Shown.{linesIn, cellsIn, finishedIn}
+use Rattle.shown.proofs.Cells.{cellsRow, cells-are-shown}
+use Rattle.shown.proofs.Lines.{asShown, rowsFrom, each-entry-has-a-row, lines-are-shown}
+use Rattle.shown.proofs.Finishing.{finished-as-shown}
+use Rattle.shown.proofs.Rows.{rows-of-a-listing}
+
+module _ (file : List ℕ) (are : AreBytes file) (taken : fileRefusal file ≡ 0) where
+  abbrev max : ℕ
+  max = maxAt file
+
+  abbrev divide : ℕ
+  divide = divideAt file
+
+  abbrev calls : List Call
+  calls = callsOf file
+
+  abbrev lines : List Line
+  lines = linesFrom (firstOf file) 0 calls
+
+  -- the strip's words at the end
+  abbrev strip : List ℕ
+  strip = endFrom (firstOf file) 0 calls .strip
+
+  known : Listable file
+  known = listable file taken
+
+  count : length calls ≡ entriesOf file
+  count = calls-count file 10 (entriesOf file)
+
+  row-count : length (rowsFrom (firstOf file) 0 calls) ≡ entriesOf file
+  row-count = each-entry-has-a-row (firstOf file) 0 calls ∙ count
+
+  lines-shown : linesIn file (listingOf file) ≡ map asShown lines
+  lines-shown =
+      rw (rows-of-a-listing max divide (partiesAt file) calls, take-at (rowsFrom (firstOf file) 0 calls) _ (entriesOf file) row-count)
+      (lines-are-shown (firstOf file) 0 calls
+      (lines-are-bounded (firstOf file .strip) (partiesAt file) calls (rw count (known .few))))
+
+  finished-shown : finishedIn file (listingOf file) ≡ finishedOf (partiesAt file) calls lines
+  finished-shown = rw lines-shown (finished-as-shown _ 0 calls lines)
+
+  words : Every IsWord 0 strip
+  words =
+      no-counter-comes-round-on-a-fresh-strip max divide (partiesAt file) calls (known .max-low) (known .max-high) (known .inside)
+      (calls-fit file are)
+
+  cells-shown : cellsIn file (listingOf file) ≡ strip
+  cells-shown =
+      let row = getD-at (rowsFrom (firstOf file) 0 calls) (cellsRow strip) ([] ∷ []) [] (entriesOf file) row-count in
+      rw (rows-of-a-listing max divide (partiesAt file) calls, add-one (entriesOf file), row) (cells-are-shown strip words)
+
+  -- Every listing is explained: the finished operations that it shows, played on a fresh plain strip in the order of the effects that
+  -- it shows, give every answer that it shows, and end at the plain strip that the cells that it shows stand for.
+  pub every-listing-is-explained :
+      (q : Plain) × StandsFor (cellsIn file (listingOf file)) q
+      × Explained (freshPlain (maxAt file) (divideAt file)) (finishedIn file (listingOf file)) (entriesOf file) q
+  every-listing-is-explained =
+      let run = every-schedule-on-a-fresh-strip-is-explained max divide (partiesAt file) calls (known .max-low) (known .max-high)
+      (known .inside) (calls-fit file are) in
+      let first = freshPlain max divide in
+      let last = run .0 in (
+        last,
+        subst (λ (cells : List ℕ). StandsFor cells last) (sym cells-shown) (run .1),
+        subst (λ (finished : List Finished). Explained first finished (entriesOf file) last) (sym finished-shown)
+            (subst (λ (n : ℕ). Explained first (finishedOf (partiesAt file) calls lines) n last) count (run .2)),
+      )
