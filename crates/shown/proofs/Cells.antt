@@ -8,6 +8,7 @@ use borrow.Author.Tests.{ne-eqb}
 use native.Mathlib.Omega.{arith}
 use Rattle.logic.specs.Every.{Every}
 use Rattle.word.specs.Word.{IsWord, valueOf, counterOf}
+use Rattle.word.proofs.Laws.{word-is-its-parts}
 use Rattle.text.specs.Text.{decimal}
 use Rattle.listing.specs.Listing.{wordText, wordsText, cellsText}
 use Rattle.shown.specs.Shown.{split, rows, shownWord}
@@ -26,7 +27,7 @@ field-shows-the-word word fits =
       only-piece 46 counter (digits-lack 46 (omega arith) 9 (counterOf word)),
       digits-spell-the-number 9 (valueOf word) (omega arith),
       digits-spell-the-number 9 (counterOf word) (omega arith),
-    ) (omega arith)
+    ) (word-is-its-parts word)
 
 fields-show-the-words : (words : List ℕ) → Every IsWord 0 words → map shownWord (map fieldOf words) ≡ words
 fields-show-the-words [] fit = refl

@@ -1,5 +1,5 @@
 -- The lines that a listing shows are the run's, each with its effect where it is a result.
-use Prim.Native.Nat.{ℕ, suc, _<_}
+use Prim.Native.Nat.{ℕ, suc, _≤_, _<_}
 use mathlib.Core.Path.{_≡_, refl, ap, ap₂}
 use mathlib.Core.Bool.{Bool, true, false}
 use mathlib.Core.List.{List, [], _∷_, _++_, map, append-assoc}
@@ -34,9 +34,9 @@ effect-lacks at line below =
     whichever (λ (text : List ℕ). lacks at text ≡ true) (isResult (line .number)) (digits-lack at (omega arith) 9 (line .effect))
     (rw (ne-eqb 45 at (λ e. omega arith)) refl)
 
-effect-is-shown : (line : Line) → line .effect < 2048 → numberIn (effectText line) ≡ asShown line .effect
+effect-is-read : (line : Line) → line .effect < 2048 → numberIn (effectText line) ≡ asShown line .effect
 unfolding numberFrom
-effect-is-shown line small = go (isResult (line .number))
+effect-is-read line small = go (isResult (line .number))
   where
     go : (result : Bool) → numberIn (pick result (decimal (line .effect)) (45 ∷ [])) ≡ pick result (line .effect) 0
     go true = digits-spell-the-number 9 (line .effect) (omega arith)
@@ -59,14 +59,18 @@ module _ (entry : ℕ) (call : Call) (line : Line) where
   line-is-cut =
       simp (number-first 32 (omega arith), only-piece 32 (effectText line) (effect-lacks 32 line (omega arith)))
 
+  number-is-shown : line .number ≤ 19 → shownLine lineRow .number ≡ line .number
+  number-is-shown small = rw line-is-cut (digits-spell-the-number 9 (line .number) (omega arith))
+
+  carried-is-shown : line .carried < 4294967296 → shownLine lineRow .carried ≡ line .carried
+  carried-is-shown small = rw line-is-cut (digits-spell-the-number 9 (line .carried) (omega arith))
+
+  effect-is-shown : line .effect < 2048 → shownLine lineRow .effect ≡ asShown line .effect
+  effect-is-shown small = rw line-is-cut (effect-is-read line small)
+
   line-is-shown : Bounded line → shownLine lineRow ≡ asShown line
   line-is-shown bounded =
-      rw (
-        line-is-cut,
-        digits-spell-the-number 9 (line .number) (omega (arith, bounded .number-is)),
-        digits-spell-the-number 9 (line .carried) (omega (arith, bounded .carried-is)),
-        effect-is-shown line (bounded .effect-is),
-      ) refl
+      rw (number-is-shown (bounded .number-is), carried-is-shown (bounded .carried-is), effect-is-shown (bounded .effect-is)) refl
 
 -- a row for each entry of a run
 unfoldable pub rowsFrom : State → (entry : ℕ) → List Call → List (List ℕ)

@@ -5,7 +5,7 @@ use mathlib.Core.Bool.{Bool, true, false}
 use lib.Dec.{eqb}
 use borrow.Author.Tests.{eqb-true, eqb-false}
 use native.Mathlib.Omega.{arith}
-use Rattle.word.specs.Word.{IsWord, valueOf, counterOf, lastCounter, raisedTo}
+use Rattle.word.specs.Word.{IsWord, valueOf, counterOf, wordOf, lastCounter, raisedTo}
 use Rattle.word.specs.Swap.{swapOf, Took}
 use Rattle.word.specs.declared.Swapped.the-variants.{Won, Lost, Stuck}
 
@@ -30,6 +30,10 @@ won-tells met from is = go (swap-goes met from)
     go (SwapGoes.won took e) = took
     go (SwapGoes.lost other e) = let z : _≡_ {A = ℕ} 0 1 = cc in absurd (omega arith)
     go (SwapGoes.stuck same ended e) = let z : _≡_ {A = ℕ} 0 1 = cc in absurd (omega arith)
+
+-- A word is its counter and its value, and no more.
+pub word-is-its-parts : (w : ℕ) → wordOf (counterOf w) (valueOf w) ≡ w
+word-is-its-parts w = omega arith
 
 -- What a swap writes has the value that it was to write, and is a word.
 pub raised-value : (from to : ℕ) → to < 4294967296 → valueOf (raisedTo from to) ≡ to
