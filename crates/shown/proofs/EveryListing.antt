@@ -1,5 +1,5 @@
--- Demand 3 of the listing itself: whatever a schedule file, if it is of bytes and no check refuses it, what its listing shows is
--- explained by the plain strip.
+-- Demand 3, said of the listing itself: where no check refuses a schedule file, what its listing shows is explained by the plain
+-- strip.
 use Prim.Native.Nat.{ℕ}
 use mathlib.Core.Path.{_≡_, sym, _∙_, subst}
 use mathlib.Core.List.{List, [], _∷_, map}

@@ -20,7 +20,7 @@ unfoldable pub split : (at : ℕ) (text : List ℕ) → List (List ℕ)
 split at [] = [] ∷ []
 split at (byte ∷ text) = pick (eqb byte at) ([] ∷ split at text) (inFront byte (split at text))
 
--- the number that digits spell behind the digits of a number
+-- the number that digits spell behind the digits of `number`
 unfoldable pub numberFrom : (number : ℕ) (digits : List ℕ) → ℕ
 numberFrom number [] = number
 numberFrom number (digit ∷ digits) = numberFrom (10 * number + (digit - 48)) digits
@@ -33,7 +33,7 @@ numberIn digits = numberFrom 0 digits
 abbrev pub rows : (text : List ℕ) → List (List ℕ)
 rows text = split 10 text
 
--- what a row shows in field 0, 1, 2 .., with a space between each two
+-- the number in field i of a row, from field 0 on, with a space between each two
 abbrev pub shownField : (row : List ℕ) (i : ℕ) → ℕ
 shownField row i = numberIn (getD (split 32 row) i [])
 
@@ -54,7 +54,7 @@ linesIn file text = map shownLine (take (entriesOf file) (drop 1 (rows text)))
 abbrev pub shownWord : (text : List ℕ) → ℕ
 shownWord text = wordOf (numberIn (getD (split 46 text) 1 [])) (numberIn (getD (split 46 text) 0 []))
 
--- the words of the row behind the entries' rows, without its first field "cells"
+-- the words that the row behind the entries' rows shows, behind its first field "cells"
 abbrev pub cellsIn : (file text : List ℕ) → List ℕ
 cellsIn file text = map shownWord (drop 1 (split 32 (getD (rows text) (entriesOf file + 1) [])))
 
