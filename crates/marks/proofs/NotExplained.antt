@@ -22,7 +22,7 @@ use Rattle.history.specs.Finished.{Finished, finishedFrom}
 use Rattle.history.specs.Explained.{Agrees, Explained}
 use Rattle.history.proofs.EverySchedule.{every-schedule-on-a-fresh-strip-is-explained}
 use Rattle.marks.specs.Replay.{allSame, plainOf, samePlain, replays}
-use Rattle.marks.specs.Marks.{callsOf, afterM1, m3}
+use Rattle.marks.specs.Marks.{markCalls, afterM1, m3}
 use Rattle.marks.specs.Moved.{linesOf, finishedBy, emptyAtItsAnswer, pushedAtItsStart}
 
 same-orders : (orders : List ℕ) → allSame eqb orders orders ≡ true
@@ -60,9 +60,9 @@ each-fits (call ∷ calls) fit (suc i) within = each-fits calls (fit .1) i (omeg
 pub m3-as-it-is-is-explained : (q : Plain) × Explained (freshPlain 2 1) (finishedBy m3 (linesOf m3)) 9 q
 unfolding Fit
 m3-as-it-is-is-explained =
-    let fits : Fit (callsOf m3) = (omega arith, (omega arith, (tt, (tt, (tt, (tt, (tt, (tt, (tt, tt))))))))) in
-    let so = every-schedule-on-a-fresh-strip-is-explained 2 1 2 (callsOf m3) (omega arith) (omega arith) (omega arith)
-    (each-fits (callsOf m3) fits) in
+    let fits : Fit (markCalls m3) = (omega arith, (omega arith, (tt, (tt, (tt, (tt, (tt, (tt, (tt, tt))))))))) in
+    let so = every-schedule-on-a-fresh-strip-is-explained 2 1 2 (markCalls m3) (omega arith) (omega arith) (omega arith)
+    (each-fits (markCalls m3) fits) in
     (so .0, so .2)
 
 -- M3's EMPTY cannot take effect at its answer: 7 is held by then.

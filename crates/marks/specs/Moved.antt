@@ -4,14 +4,14 @@ use mathlib.Core.List.{List}
 use lib.ListN.{getD, set}
 use Rattle.history.specs.Run.{Line, linesFrom}
 use Rattle.history.specs.Finished.{Finished, finishedOf}
-use Rattle.marks.specs.Marks.{Mark, callsOf, beginOf, m1, m3}
+use Rattle.marks.specs.Marks.{Mark, markCalls, markBegins, m1, m3}
 
 abbrev pub linesOf : Mark → List Line
-linesOf m = linesFrom (beginOf m) 0 (callsOf m)
+linesOf m = linesFrom (markBegins m) 0 (markCalls m)
 
 -- what is read as finished from a mark's calls and these lines
 abbrev pub finishedBy : Mark → List Line → List Finished
-finishedBy m lines = finishedOf (m .parties) (callsOf m) lines
+finishedBy m lines = finishedOf (m .parties) (markCalls m) lines
 
 -- stands for what is past the end of a list of lines
 abbrev pub noLine : Line

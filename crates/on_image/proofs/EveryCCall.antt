@@ -1,8 +1,7 @@
 -- Demand 3 of the C calls: what pds_start, pds_step and pds_withdraw answer, one after the other on one region of bytes, is explained
 -- by the plain strip; and so it is on what pds_lay left.
-use Prim.Native.Nat.{ℕ, _≤_}
+use Prim.Native.Nat.{ℕ}
 use mathlib.Core.Path.{_≡_, refl, _∙_, ap, subst}
-use mathlib.Core.Bool.{true}
 use mathlib.Core.List.{List, [], _∷_, map}
 use lib.ListN.{length, getD, drop}
 use native.Mathlib.Omega.{arith}
@@ -10,22 +9,13 @@ use Rattle.logic.specs.Every.{Every}
 use Rattle.party.specs.Answer.{numberOf, carriedOf}
 use Rattle.call.specs.Call.{Call, Fitting}
 use Rattle.plain.specs.Plain.{Plain, freshPlain}
-use Rattle.strip.specs.Shape.{StandsFor}
-use Rattle.strip.proofs.Values.{fresh-stands-for}
-use Rattle.little.specs.Bytes.{AreBytes, bytesOf}
-use Rattle.header.specs.Header.{partiesAt, countsFit}
-use Rattle.format.specs.Format.{headerRefusal}
-use Rattle.format.specs.Spelling.{stripOf}
-use Rattle.on_image.specs.Intact.{AllIdle}
-use Rattle.format.specs.Fresh.{freshImage}
 use Rattle.image.specs.Calls.{imageOf, layOf}
 use Rattle.history.specs.Run.{Line, linesFrom, noCall}
 use Rattle.pds.specs.Packed.{PackedPromise}
 use Rattle.pds.proofs.Unpacked.{a-packed-answer-tells-its-number-and-order}
-use Rattle.on_image.specs.Run.{answersOn, imageAfter, firstOn}
+use Rattle.on_image.specs.Run.{Begins, answersOn, imageAfter, firstOn}
 use Rattle.on_image.specs.Packed.{InTurn, linesTold, ExplainedInTurn}
-use Rattle.on_image.proofs.Fresh.{fresh-is-taken, fresh-is-idle, fresh-bytes, fresh-spells-fresh}
-use Rattle.on_image.proofs.Laid.{what-lay-leaves-is-fresh, what-lay-takes-fits, pds-lay-was-not-refused}
+use Rattle.on_image.proofs.Laid.{what-pds-lay-leaves-begins}
 use Rattle.on_image.proofs.EveryRun.{every-run-on-an-image-is-explained}
 
 -- calls in turn are a run on the image
@@ -55,30 +45,19 @@ in-turn-tells (call ∷ calls) (line ∷ lines) image (answer ∷ answers) last 
     let later = in-turn-tells calls lines (imageOf image call .image) answers last rest (ap (drop 1) numbers) (ap (drop 1) carried) in
     rw (told .0, told .1, later, ap first numbers, ap first carried) refl
 
--- Demand 3 of the C calls. From any image whose header is taken, whose records are 32 zero bytes each and whose strip stands for p.
-module _ (image : List ℕ) (p : Plain) (are : AreBytes image) (taken : headerRefusal image ≡ 0) (idle : AllIdle image)
-    (stands : StandsFor (stripOf image) p) where
-  pub every-run-of-C-calls-is-explained : (calls : List Call) (answers last : List ℕ) → Every Fitting noCall calls
-      → InTurn image calls answers last → ExplainedInTurn p (partiesAt image) image calls answers last
-  every-run-of-C-calls-is-explained calls answers last fitting turn =
-      let run = every-run-on-an-image-is-explained image p calls are taken idle stands fitting in
-      let lines = in-turn-tells calls (linesFrom (firstOn image) 0 calls) image answers last turn (run .0 .numbers) (run .0 .carried) in
-      (run .1, rw (in-turn-ends calls image answers last turn) (run .2), rw lines (run .3))
+-- Demand 3 of the C calls, from any image at the beginning of a run.
+pub every-run-of-C-calls-is-explained : (image : List ℕ) (p : Plain) (parties : ℕ) → Begins image p parties
+    → (calls : List Call) → Every Fitting noCall calls → (answers last : List ℕ) → InTurn image calls answers last
+    → ExplainedInTurn image p parties calls answers last
+every-run-of-C-calls-is-explained image p parties begins calls fitting answers last turn =
+    let run = every-run-on-an-image-is-explained image p parties begins calls fitting in
+    let lines = in-turn-tells calls (linesFrom (firstOn image parties) 0 calls) image answers last turn (run .0 .numbers) (run .0 .carried) in
+    (run .1, rw (in-turn-ends calls image answers last turn) (run .2), rw lines (run .3))
 
--- What pds_lay leaves where it answers 0 is such an image, with a fresh strip of the divide that it was given.
-module _ (max parties divide : ℕ) (calls : List Call) (answers last : List ℕ) (fitting : Every Fitting noCall calls) where
-  on-a-fresh-image : countsFit max parties ≡ true → divide ≤ max → InTurn (freshImage 1 max parties divide) calls answers last
-      → ExplainedInTurn (freshPlain max divide) parties (freshImage 1 max parties divide) calls answers last
-  unfolding bytesOf
-  on-a-fresh-image fit inside =
-      every-run-of-C-calls-is-explained (freshImage 1 max parties divide) (freshPlain max divide)
-      (fresh-bytes 1 max parties divide refl fit inside) (fresh-is-taken 1 max parties divide refl fit inside)
-      (fresh-is-idle 1 max parties divide refl fit inside)
-      (rw (fresh-spells-fresh 1 max parties divide refl fit inside) (fresh-stands-for max divide)) calls answers last fitting
-
-  pub every-run-of-C-calls-after-pds-lay-is-explained : (bytes image : List ℕ) → PackedPromise (layOf bytes max parties divide) 0 image
-      → InTurn image calls answers last → ExplainedInTurn (freshPlain max divide) parties image calls answers last
-  every-run-of-C-calls-after-pds-lay-is-explained bytes image laid =
-      let none = pds-lay-was-not-refused bytes max parties divide image laid in
-      let fits = what-lay-takes-fits bytes max parties divide none in
-      rw (laid .bytes ∙ what-lay-leaves-is-fresh bytes max parties divide none) (on-a-fresh-image (fits .0) (fits .1))
+-- What pds_lay leaves where it answers 0 is such an image, with the divide that it was given.
+pub every-run-of-C-calls-after-pds-lay-is-explained : (bytes : List ℕ) (max parties divide : ℕ) (image : List ℕ)
+    → PackedPromise (layOf bytes max parties divide) 0 image
+    → (calls : List Call) → Every Fitting noCall calls → (answers last : List ℕ) → InTurn image calls answers last
+    → ExplainedInTurn image (freshPlain max divide) parties calls answers last
+every-run-of-C-calls-after-pds-lay-is-explained bytes max parties divide image laid =
+    every-run-of-C-calls-is-explained image (freshPlain max divide) parties (what-pds-lay-leaves-begins bytes max parties divide image laid)

@@ -14,11 +14,9 @@ use Rattle.step.specs.Step.{stripFits}
 use Rattle.call.specs.Call.{Call, Fitting, Left}
 use Rattle.plain.specs.Plain.{Plain}
 use Rattle.strip.specs.Shape.{StandsFor}
-use Rattle.little.specs.Bytes.{AreBytes}
-use Rattle.header.specs.Header.{partiesAt, maxAt}
-use Rattle.format.specs.Format.{headerRefusal}
+use Rattle.header.specs.Header.{maxAt}
 use Rattle.format.specs.Spelling.{stripOf, tableOf}
-use Rattle.on_image.specs.Intact.{Intact, AllIdle}
+use Rattle.on_image.specs.Intact.{Intact}
 use Rattle.format.proofs.Sizes.{header-sized}
 use Rattle.format.proofs.Spelled.{strip-length}
 use Rattle.image.specs.Calls.{Done, decoded, imageOf}
@@ -27,8 +25,8 @@ use Rattle.history.specs.Run.{State, after, leaves, lineOf, linesFrom, endFrom,
 use Rattle.history.specs.Finished.{finishedOf}
 use Rattle.history.specs.Explained.{Explained}
 use Rattle.history.proofs.EverySchedule.{every-schedule-is-explained}
-use Rattle.on_image.specs.Run.{answersOn, imageAfter, firstOn, RunsAs}
-use Rattle.on_image.proofs.Zeros.{all-idle-spells-idle-parties, all-idle-is-intact}
+use Rattle.on_image.specs.Run.{Begins, answersOn, imageAfter, firstOn, RunsAs}
+use Rattle.on_image.proofs.Beginning.{idle-parties-are-spelled, it-is-intact}
 use Rattle.on_image.proofs.Kept.{an-intact-image-is-called-decoded, a-call-keeps-an-image-intact, strip-after, table-after}
 
 -- Calls on an intact image answer what they answer on the strip and the table that it spells, and leave what they leave there.
@@ -65,22 +63,22 @@ a-run-in-two-parts (call ∷ calls) later image =
     let rest = a-run-in-two-parts calls later (imageOf image call .image) in
     (ap (λ (l : List Answer). imageOf image call .answer ∷ l) (rest .0), rest .1)
 
-module _ (image : List ℕ) (p : Plain) (calls : List Call) (are : AreBytes image) (taken : headerRefusal image ≡ 0)
-    (idle : AllIdle image) (stands : StandsFor (stripOf image) p) (fitting : Every Fitting noCall calls) where
-  runs : RunsAs (firstOn image) 0 image calls
+module _ (image : List ℕ) (p : Plain) (parties : ℕ) (begins : Begins image p parties) (calls : List Call)
+    (fitting : Every Fitting noCall calls) where
+  runs : RunsAs (firstOn image parties) 0 image calls
   runs =
-      a-run-on-an-image-is-the-run-of-what-it-spells calls image (firstOn image) 0 (all-idle-is-intact image are taken idle) fitting refl
-      (all-idle-spells-idle-parties image idle)
+      a-run-on-an-image-is-the-run-of-what-it-spells calls image (firstOn image parties) 0 (it-is-intact image p parties begins) fitting refl
+      (idle-parties-are-spelled image p parties begins)
 
   words-fit : stripFits (length (stripOf image)) ≡ true
-  words-fit = rw (strip-length image) (strip-fits (maxAt image) (max-within (maxAt image) (header-sized image taken .max-fits)))
+  words-fit = rw (strip-length image) (strip-fits (maxAt image) (max-within (maxAt image) (header-sized image (begins .taken) .max-fits)))
 
   -- Every run on an image is explained: it is the run of the strip and the idle parties that the image spells, and the bytes at the end
   -- spell a strip that stands for the plain strip at the end.
   pub every-run-on-an-image-is-explained :
-      RunsAs (firstOn image) 0 image calls
+      RunsAs (firstOn image parties) 0 image calls
       × (q : Plain) × StandsFor (stripOf (imageAfter image calls)) q
-      × Explained p (finishedOf (partiesAt image) calls (linesFrom (firstOn image) 0 calls)) (length calls) q
+      × Explained p (finishedOf parties calls (linesFrom (firstOn image parties) 0 calls)) (length calls) q
   every-run-on-an-image-is-explained =
-      let explained = every-schedule-is-explained (stripOf image) p (partiesAt image) calls words-fit stands fitting in
+      let explained = every-schedule-is-explained (stripOf image) p parties calls words-fit (begins .stands) fitting in
       (runs, explained .0, subst (λ (strip : List ℕ). StandsFor strip (explained .0)) (sym (runs .strip)) (explained .1), explained .2)

@@ -3,7 +3,7 @@ use Prim.Native.Nat.{ℕ, zero, suc, _+_, _*_, _≤_, _<_}
 use mathlib.Core.Path.{_≡_, refl, sym, _∙_, ap}
 use mathlib.Core.Bool.{true}
 use mathlib.Core.List.{List, [], _∷_, _++_}
-use lib.ListN.{length, replicate, length-append, length-replicate}
+use lib.ListN.{length, replicate, length-append, length-replicate, getD}
 use lib.Seq.{sets, getD-append-add}
 use lib.Dec.{leb}
 use borrow.Author.Tests.{eqb-true, eq-eqb, leb-true, le-ltb}
@@ -14,8 +14,10 @@ use Rattle.record.specs.Record.{idle}
 use Rattle.party.specs.Calls.{maxFits}
 use Rattle.party.proofs.Cleared.{max-within}
 use Rattle.call.specs.Call.{tableFits}
+use Rattle.plain.specs.Plain.{freshPlain}
 use Rattle.strip.specs.Lay.{freshStrip}
 use Rattle.strip.proofs.Laying.{fresh-length, fresh-words}
+use Rattle.strip.proofs.Values.{fresh-stands-for}
 use Rattle.little.specs.Bytes.{AreBytes, numberAt, bytesOf}
 use Rattle.little.proofs.Runs.{middle-run}
 use Rattle.little.proofs.Digits.{digits-are-bytes}
@@ -23,11 +25,12 @@ use Rattle.header.specs.Header.{versionAt, partiesAt, maxAt, countsFit}
 use Rattle.format.specs.Format.{isKnown, lengthOf, headerRefusal, recordsIn, wordsBase}
 use Rattle.format.specs.Spelling.{wordsFrom, stripOf, tableOf, wordBytes}
 use Rattle.format.specs.Fresh.{headerBytes, freshImage}
-use Rattle.on_image.specs.Intact.{Intact, AllIdle}
+use Rattle.on_image.specs.Intact.{Intact}
+use Rattle.on_image.specs.Run.{Begins}
 use Rattle.format.proofs.Parts.{partsFrom, withParts, laid-parts-read}
 use Rattle.format.proofs.Words.{wordPart, words-are-parts, words-laid-are-parts}
 use Rattle.format.proofs.Laying.{length-header, length-word-bytes}
-use Rattle.on_image.proofs.Zeros.{all-idle-spells-idle-parties, all-idle-is-intact}
+use Rattle.on_image.proofs.Beginning.{idle-parties-are-spelled, it-is-intact}
 
 bytes-append : (a b : List ℕ) → AreBytes a → AreBytes b → AreBytes (a ++ b)
 bytes-append [] b first second i = second i
@@ -70,7 +73,7 @@ module _ (version max parties divide : ℕ) (known : isKnown version ≡ true) (
   unfolding numberAt bytesOf
   version-is = omega (arith, one)
 
-  pub parties-are : partiesAt image ≡ parties
+  parties-are : partiesAt image ≡ parties
   unfolding bytesOf
   parties-are = refl
 
@@ -86,7 +89,7 @@ module _ (version max parties divide : ℕ) (known : isKnown version ≡ true) (
       length-append header (words ++ zeros) ∙ rw (length-append words zeros)
       (omega (arith, length-header version max parties, long-words, length-replicate {A = ℕ} (32 * parties) 0))
 
-  pub fresh-is-taken : headerRefusal image ≡ 0
+  fresh-is-taken : headerRefusal image ≡ 0
   unfolding headerRefusal bytesOf
   fresh-is-taken =
       rw (le-ltb (length image) 8 (omega (arith, exact)), version-is, max-is, known, fit, eq-eqb (length image) (lengthOf version max parties) exact) refl
@@ -101,19 +104,19 @@ module _ (version max parties divide : ℕ) (known : isKnown version ≡ true) (
       (bytes-append (bytesOf 2 version) counts (digits-are-bytes 2 version)
       (byte-before parties (bytesOf 2 max) (omega (arith, few)) (digits-are-bytes 2 max)))))
 
-  pub fresh-bytes : AreBytes image
+  fresh-bytes : AreBytes image
   fresh-bytes =
       bytes-append header (words ++ zeros) header-are-bytes
       (bytes-append words zeros (words-are-bytes (freshStrip max divide)) (λ i. rw (all-the-same {A = ℕ} (32 * parties) i 0) (omega arith)))
 
-  pub fresh-is-idle : AllIdle image
+  fresh-is-idle : (i : ℕ) → getD image (recordsIn image + i) 0 ≡ 0
   fresh-is-idle i =
       let place : recordsIn image + i ≡ length header + (length words + i) =
       rw (max-is) (omega (arith, length-header version max parties, long-words)) in
       rw place
       (getD-append-add header (words ++ zeros) (length words + i) 0 ∙ getD-append-add words zeros i 0 ∙ all-the-same {A = ℕ} (32 * parties) i 0)
 
-  pub fresh-spells-fresh : stripOf image ≡ freshStrip max divide
+  fresh-spells-fresh : stripOf image ≡ freshStrip max divide
   fresh-spells-fresh =
       let under : List ℕ = replicate (8 * (max + 2)) 0 in
       let blank = header ++ (under ++ zeros) in
@@ -131,9 +134,23 @@ module _ (version max parties divide : ℕ) (known : isKnown version ≡ true) (
       ∙ laid-parts-read wordPart 0 (freshStrip max divide) blank wordsBase (fresh-words max divide inside)
       (omega (arith, room, fresh-length max divide inside))
 
-  -- A fresh image is intact, spells the fresh strip, and every party of it is idle.
+  -- A fresh image is one at the beginning, of a fresh strip with the same divide.
+  pub a-fresh-image-begins : Begins image (freshPlain max divide) parties
+  a-fresh-image-begins =
+      record {
+        bytes = fresh-bytes;
+        taken = fresh-is-taken;
+        for-parties = parties-are;
+        stands = rw fresh-spells-fresh (fresh-stands-for max divide);
+        idle = fresh-is-idle;
+      }
+
+  -- Its header is taken and its bytes that must be zero are, and it spells the fresh strip and idle parties.
   pub a-fresh-image-spells-a-fresh-strip :
       Intact image × (stripOf image ≡ freshStrip max divide) × (tableOf image ≡ replicate parties idle)
   a-fresh-image-spells-a-fresh-strip =
-      (all-idle-is-intact image fresh-bytes fresh-is-taken fresh-is-idle, fresh-spells-fresh,
-      all-idle-spells-idle-parties image fresh-is-idle ∙ ap (λ (n : ℕ). replicate n idle) parties-are)
+      let begins = a-fresh-image-begins in (
+        it-is-intact image (freshPlain max divide) parties begins,
+        fresh-spells-fresh,
+        idle-parties-are-spelled image (freshPlain max divide) parties begins,
+      )

@@ -1,6 +1,6 @@
-pub mod Zeros
-pub mod Kept
-pub mod EveryRun
+pub mod Beginning
 pub mod Fresh
 pub mod Laid
+pub mod Kept
+pub mod EveryRun
 pub mod EveryCCall

@@ -1,12 +1,11 @@
--- What every call keeps of an image, and what an image is at the beginning of a run.
-use Prim.Native.Nat.{ℕ, _+_, _<_}
+-- What every call keeps of an image.
+use Prim.Native.Nat.{ℕ, _<_}
 use mathlib.Core.Path.{_≡_}
 use mathlib.Core.Bool.{true}
 use mathlib.Core.List.{List}
-use lib.ListN.{getD}
 use Rattle.little.specs.Bytes.{AreBytes}
 use Rattle.header.specs.Header.{versionAt, partiesAt}
-use Rattle.format.specs.Format.{headerRefusal, recordsIn, partyPlace}
+use Rattle.format.specs.Format.{headerRefusal, partyPlace}
 use Rattle.format.specs.Spelling.{isSpare}
 
 -- the header is taken, and the bytes of each record that must be zero are
@@ -14,7 +13,3 @@ pub record Intact (image : List ℕ) : Type 0 where
   pub bytes : AreBytes image
   pub taken : headerRefusal image ≡ 0
   pub spare : (party : ℕ) → party < partiesAt image → isSpare (versionAt image) image (partyPlace image party) ≡ true
-
--- every record is 32 zero bytes: where the records stand, and past the end, every byte is zero
-abbrev pub AllIdle : List ℕ → Type 0
-AllIdle image = (i : ℕ) → getD image (recordsIn image + i) 0 ≡ 0

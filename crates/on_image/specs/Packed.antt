@@ -30,12 +30,12 @@ linesTold (answer ∷ answers) (effect ∷ effects) =
     record { number = pdsNumber answer; carried = pdsOrder answer; effect = effect } ∷ linesTold answers effects
 
 -- where each took effect, in the run of the strip that the image spells
-abbrev pub effectsOn : (image : List ℕ) → List Call → List ℕ
-effectsOn image calls = map (λ (line : Line). line .effect) (linesFrom (firstOn image) 0 calls)
+abbrev pub effectsOn : (image : List ℕ) (parties : ℕ) → List Call → List ℕ
+effectsOn image parties calls = map (λ (line : Line). line .effect) (linesFrom (firstOn image parties) 0 calls)
 
 -- Demand 3 as C sees it: the finished operations, read from the calls and the answers, are explained from the plain strip p on, and the
 -- last bytes spell a strip that stands for its end.
-abbrev pub ExplainedInTurn : (p : Plain) (parties : ℕ) (image : List ℕ) → List Call → (answers last : List ℕ) → Type 0
-ExplainedInTurn p parties image calls answers last =
+abbrev pub ExplainedInTurn : (image : List ℕ) (p : Plain) (parties : ℕ) → List Call → (answers last : List ℕ) → Type 0
+ExplainedInTurn image p parties calls answers last =
     (q : Plain) × StandsFor (stripOf last) q
-    × Explained p (finishedOf parties calls (linesTold answers (effectsOn image calls))) (length calls) q
+    × Explained p (finishedOf parties calls (linesTold answers (effectsOn image parties calls))) (length calls) q

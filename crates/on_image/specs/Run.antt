@@ -1,17 +1,31 @@
 -- A run on an image: calls one after the other, each on the bytes that the one before left.
-use Prim.Native.Nat.{ℕ}
+use Prim.Native.Nat.{ℕ, _+_}
 use mathlib.Core.Path.{_≡_}
 use mathlib.Core.List.{List, [], _∷_, map}
+use lib.ListN.{getD}
 use Rattle.party.specs.Answer.{numberOf, carriedOf}
 use Rattle.party.specs.declared.Answer.{Answer}
 use Rattle.call.specs.Call.{Call}
+use Rattle.plain.specs.Plain.{Plain}
+use Rattle.strip.specs.Shape.{StandsFor}
+use Rattle.little.specs.Bytes.{AreBytes}
 use Rattle.header.specs.Header.{partiesAt}
+use Rattle.format.specs.Format.{headerRefusal, recordsIn}
 use Rattle.format.specs.Spelling.{stripOf, tableOf}
-use Rattle.on_image.specs.Intact.{Intact}
 use Rattle.image.specs.Calls.{imageOf}
 use Rattle.history.specs.Run.{State, Line, begin, linesFrom, endFrom}
+use Rattle.on_image.specs.Intact.{Intact}
 
--- what each is answered, and the bytes after the last
+-- The image at the beginning: its header is taken, for so many parties; its strip stands for the plain strip p; and every record is 32
+-- zero bytes: where the records stand, and past the end, every byte is zero.
+pub record Begins (image : List ℕ) (p : Plain) (parties : ℕ) : Type 0 where
+  pub bytes : AreBytes image
+  pub taken : headerRefusal image ≡ 0
+  pub for-parties : partiesAt image ≡ parties
+  pub stands : StandsFor (stripOf image) p
+  pub idle : (i : ℕ) → getD image (recordsIn image + i) 0 ≡ 0
+
+-- what each call is answered, and the bytes after the last
 unfoldable pub answersOn : (image : List ℕ) → List Call → List Answer
 answersOn image [] = []
 answersOn image (call ∷ calls) = imageOf image call .answer ∷ answersOn (imageOf image call .image) calls
@@ -21,8 +35,8 @@ imageAfter image [] = image
 imageAfter image (call ∷ calls) = imageAfter (imageOf image call .image) calls
 
 -- the strip that an image spells, with every party idle
-abbrev pub firstOn : (image : List ℕ) → State
-firstOn image = begin (stripOf image) (partiesAt image)
+abbrev pub firstOn : (image : List ℕ) (parties : ℕ) → State
+firstOn image parties = begin (stripOf image) parties
 
 -- The calls on an image answer what they answer in a run from the state s, and leave what it leaves, spelled in an intact image.
 pub record RunsAs (s : State) (entry : ℕ) (image : List ℕ) (calls : List Call) : Type 0 where

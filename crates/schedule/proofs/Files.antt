@@ -66,14 +66,14 @@ lays file words l same =
     simp (le-leb 3 words (omega arith), le-leb words 4096 (omega arith), le-leb (divideAt file) (words - 2) (omega arith))
 
 -- the three pieces of a listing
-abbrev pub headerIn : (file : List ℕ) → List ℕ
-headerIn file = headerText (maxAt file) (divideAt file) (partiesAt file)
+abbrev pub headerPiece : (file : List ℕ) → List ℕ
+headerPiece file = headerText (maxAt file) (divideAt file) (partiesAt file)
 
-abbrev pub linesIn : (file : List ℕ) → List ℕ
-linesIn file = runText (firstOf file) 0 (callsOf file)
+abbrev pub linesPiece : (file : List ℕ) → List ℕ
+linesPiece file = runText (firstOf file) 0 (callsOf file)
 
-abbrev pub cellsIn : (file : List ℕ) → List ℕ
-cellsIn file = cellsText (endFrom (firstOf file) 0 (callsOf file) .strip)
+abbrev pub cellsPiece : (file : List ℕ) → List ℕ
+cellsPiece file = cellsText (endFrom (firstOf file) 0 (callsOf file) .strip)
 
 pub calls-count : (file : List ℕ) (at count : ℕ) → length (callsFrom file at count) ≡ count
 unfolding callsFrom
@@ -105,7 +105,7 @@ module _ (file : List ℕ) (passes : fileRefusal file ≡ 0) (bytes : AreBytes f
       (rw (calls-count file 10 (entriesOf file)) (l .few)) (calls-narrow file bytes)
 
   -- the room that a listing wants, piece by piece
-  pub room-to-list : (out : List ℕ) → longest ≤ length out → Room (headerIn file ++ (linesIn file ++ cellsIn file)) out 0
+  pub room-to-list : (out : List ℕ) → longest ≤ length out → Room (headerPiece file ++ (linesPiece file ++ cellsPiece file)) out 0
   unfolding listingText
   room-to-list out long = record { fits = omega (arith, the-listing-fits) }
 

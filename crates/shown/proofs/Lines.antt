@@ -15,7 +15,7 @@ use Rattle.history.specs.Run.{State, Line, lineOf, leaves, linesFrom}
 use Rattle.history.specs.Finished.{isResult}
 use Rattle.listing.specs.Listing.{effectText, lineText, linesText, runText}
 use Rattle.listing.proofs.Bounds.{Bounded, noLine}
-use Rattle.shown.specs.Shown.{split, numberFrom, numberIn, rows, shownLine}
+use Rattle.shown.specs.Shown.{split, decimalFrom, decimalIn, rows, shownLine}
 use Rattle.shown.proofs.Splitting.{lacks, lacks-both, digits-lack, first-piece, only-piece, number-first}
 use Rattle.shown.proofs.Numbers.{digits-spell-the-number}
 
@@ -34,11 +34,11 @@ effect-lacks at line below =
     whichever (λ (text : List ℕ). lacks at text ≡ true) (isResult (line .number)) (digits-lack at (omega arith) 9 (line .effect))
     (rw (ne-eqb 45 at (λ e. omega arith)) refl)
 
-effect-is-read : (line : Line) → line .effect < 2048 → numberIn (effectText line) ≡ asShown line .effect
-unfolding numberFrom
+effect-is-read : (line : Line) → line .effect < 2048 → decimalIn (effectText line) ≡ asShown line .effect
+unfolding decimalFrom
 effect-is-read line small = go (isResult (line .number))
   where
-    go : (result : Bool) → numberIn (pick result (decimal (line .effect)) (45 ∷ [])) ≡ pick result (line .effect) 0
+    go : (result : Bool) → decimalIn (pick result (decimal (line .effect)) (45 ∷ [])) ≡ pick result (line .effect) 0
     go true = digits-spell-the-number 9 (line .effect) (omega arith)
     go false = refl
 

@@ -7,18 +7,18 @@ use native.Mathlib.Omega.{arith}
 use Rattle.logic.proofs.Bools.{whichever}
 use Rattle.text.specs.Text.{digitsOf}
 use Rattle.text.proofs.Lengths.{tens}
-use Rattle.shown.specs.Shown.{numberFrom, numberIn}
+use Rattle.shown.specs.Shown.{decimalFrom, decimalIn}
 
 one-digit-more : (digits : List ℕ) (number digit : ℕ)
-    → numberFrom number (digits ++ (digit ∷ [])) ≡ 10 * numberFrom number digits + (digit - 48)
-unfolding numberFrom
+    → decimalFrom number (digits ++ (digit ∷ [])) ≡ 10 * decimalFrom number digits + (digit - 48)
+unfolding decimalFrom
 one-digit-more [] number digit = refl
 one-digit-more (d ∷ digits) number digit = one-digit-more digits (10 * number + (d - 48)) digit
 
-pub digits-spell-the-number : (most number : ℕ) → number < tens most → numberIn (digitsOf most number) ≡ number
-unfolding numberFrom digitsOf
+pub digits-spell-the-number : (most number : ℕ) → number < tens most → decimalIn (digitsOf most number) ≡ number
+unfolding decimalFrom digitsOf
 digits-spell-the-number zero number fits = omega arith
 digits-spell-the-number (suc most) number fits =
     let before = digits-spell-the-number most (number / 10) (omega arith) in
-    whichever (λ (digits : List ℕ). numberIn digits ≡ number) (ltb number 10) (omega arith)
+    whichever (λ (digits : List ℕ). decimalIn digits ≡ number) (ltb number 10) (omega arith)
     (omega (arith, one-digit-more (digitsOf most (number / 10)) 0 (48 + number % 10)))

@@ -21,13 +21,13 @@ split at [] = [] ∷ []
 split at (byte ∷ text) = pick (eqb byte at) ([] ∷ split at text) (inFront byte (split at text))
 
 -- the number that digits spell behind the digits of `number`
-unfoldable pub numberFrom : (number : ℕ) (digits : List ℕ) → ℕ
-numberFrom number [] = number
-numberFrom number (digit ∷ digits) = numberFrom (10 * number + (digit - 48)) digits
+unfoldable pub decimalFrom : (number : ℕ) (digits : List ℕ) → ℕ
+decimalFrom number [] = number
+decimalFrom number (digit ∷ digits) = decimalFrom (10 * number + (digit - 48)) digits
 
 -- the number that decimal digits spell, most first
-abbrev pub numberIn : (digits : List ℕ) → ℕ
-numberIn digits = numberFrom 0 digits
+abbrev pub decimalIn : (digits : List ℕ) → ℕ
+decimalIn digits = decimalFrom 0 digits
 
 -- the rows of a text
 abbrev pub rows : (text : List ℕ) → List (List ℕ)
@@ -35,7 +35,7 @@ rows text = split 10 text
 
 -- the number in field i of a row, from field 0 on, with a space between each two
 abbrev pub shownField : (row : List ℕ) (i : ℕ) → ℕ
-shownField row i = numberIn (getD (split 32 row) i [])
+shownField row i = decimalIn (getD (split 32 row) i [])
 
 -- the line that a row shows: behind entry and party the number, the carried order and the effect; "-" reads as 0
 abbrev pub shownLine : (row : List ℕ) → Line
@@ -52,7 +52,7 @@ linesIn file text = map shownLine (take (entriesOf file) (drop 1 (rows text)))
 
 -- the word that "value.counter" shows
 abbrev pub shownWord : (text : List ℕ) → ℕ
-shownWord text = wordOf (numberIn (getD (split 46 text) 1 [])) (numberIn (getD (split 46 text) 0 []))
+shownWord text = wordOf (decimalIn (getD (split 46 text) 1 [])) (decimalIn (getD (split 46 text) 0 []))
 
 -- the words that the row behind the entries' rows shows, behind its first field "cells"
 abbrev pub cellsIn : (file text : List ℕ) → List ℕ

@@ -6,7 +6,7 @@ use Rattle.text.proofs.Puts.{room-left, room-right, puts-then}
 use Rattle.listing.specs.Listing.{listingText}
 use Rattle.schedule.specs.List.{firstOf, wordsAtEnd}
 use native.Mathlib.Omega.{arith}
-use Rattle.schedule.proofs.Files.{Listable, listable, headerIn, linesIn, cellsIn, laid-fresh, room-to-list}
+use Rattle.schedule.proofs.Files.{Listable, listable, headerPiece, linesPiece, cellsPiece, laid-fresh, room-to-list}
 use borrow.Author.Needs.{needs}
 use Rattle.schedule.proofs.run_and_tell.Statement.{statement}
 use Rattle.schedule.proofs.run_and_tell.Tie as tie
@@ -66,13 +66,13 @@ fresh c =
     laid-fresh (file-of c) (start-of c .args .strip .now) (divide-of c .number-2 .result) (known c) (start-of c .pre .1)
     (divide-of c .number-2 .ensures) (lay-of c .lay .ensures)
 
-puts-header : (c : tie.After-put-header) → Puts (headerIn (file-of c)) (start-of c .args .out .now) 0 (c .put-header .result) (c .put-header .last .0)
+puts-header : (c : tie.After-put-header) → Puts (headerPiece (file-of c)) (start-of c .args .out .now) 0 (c .put-header .result) (c .put-header .last .0)
 puts-header c = rw (c .before .number-22 .ensures, divide-of c .number-2 .ensures) at (c .put-header .ensures)
 
 -- the run and the cells have room behind the header
-rest-fits : (c : tie.After-put-header) → Room (linesIn (file-of c) ++ cellsIn (file-of c)) (c .put-header .last .0) (c .put-header .result)
+rest-fits : (c : tie.After-put-header) → Room (linesPiece (file-of c) ++ cellsPiece (file-of c)) (c .put-header .last .0) (c .put-header .result)
 rest-fits c =
-    room-right (headerIn (file-of c)) _
+    room-right (headerPiece (file-of c)) _
     (room-to-list (file-of c) (start-of c .pre .0) (λ (i : ℕ). divide-of c .before .before .before .before .shared-slice-known .given i .fits)
     (start-of c .args .out .now) (start-of c .pre .2))
     (puts-header c)
@@ -80,13 +80,13 @@ rest-fits c =
 run-entries-requires : tie.Need-run-entries-requires
 run-entries-requires c κs =
     let header = c .before .before .before .before in
-    (omega (arith, known header .headed), known header .few, known header .parties-high, rw (fresh header) (room-left (linesIn (file-of header)) (cellsIn (file-of header)) (rest-fits header)))
+    (omega (arith, known header .headed), known header .few, known header .parties-high, rw (fresh header) (room-left (linesPiece (file-of header)) (cellsPiece (file-of header)) (rest-fits header)))
 
 put-cells-requires : tie.Need-put-cells-requires
 put-cells-requires c κs =
     let run = c .before .before .before .before .before .before in
     let header = run .before .before .before .before .before in
-    rw (rw (fresh header) at (run .run-entries .ensures .1)) (room-right (linesIn (file-of header)) (cellsIn (file-of header)) (rest-fits header) (rw (fresh header) at (run .run-entries .ensures .0)))
+    rw (rw (fresh header) at (run .run-entries .ensures .1)) (room-right (linesPiece (file-of header)) (cellsPiece (file-of header)) (rest-fits header) (rw (fresh header) at (run .run-entries .ensures .0)))
 
 same-length : tie.Need-same-length
 same-length c = search needs
@@ -102,7 +102,7 @@ returns c =
     let header = run .before .before .before .before .before in
     let puts-run = rw (fresh header) at (run .run-entries .ensures .0) in
     let words = rw (fresh header) at (run .run-entries .ensures .1) in
-    (puts-then (headerIn (file-of header)) _ (puts-header header) (puts-then (linesIn (file-of header)) (cellsIn (file-of header)) puts-run (rw words at (cells .put-cells .ensures))), words)
+    (puts-then (headerPiece (file-of header)) _ (puts-header header) (puts-then (linesPiece (file-of header)) (cellsPiece (file-of header)) puts-run (rw words at (cells .put-cells .ensures))), words)
 
 pub run-and-tell-spec : {M : Type 1} → statement M
 run-and-tell-spec =

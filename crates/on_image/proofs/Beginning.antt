@@ -1,16 +1,18 @@
--- Records of 32 zero bytes are idle, and their bytes that must be zero are.
+-- An image at the beginning of a run: its records of 32 zero bytes are idle, and their bytes that must be zero are.
 use Prim.Native.Nat.{ℕ, zero, suc, _+_, _*_}
-use mathlib.Core.Path.{_≡_, refl, ap₂}
+use mathlib.Core.Path.{_≡_, refl, _∙_, ap, ap₂}
 use mathlib.Core.List.{List, _∷_}
 use lib.ListN.{getD, replicate}
 use native.Mathlib.Omega.{arith}
 use Rattle.record.specs.Record.{idle}
 use Rattle.record.specs.declared.Record.{Record}
-use Rattle.little.specs.Bytes.{AreBytes, numberAt}
+use Rattle.plain.specs.Plain.{Plain}
+use Rattle.little.specs.Bytes.{numberAt}
 use Rattle.header.specs.Header.{versionAt, partiesAt}
-use Rattle.format.specs.Format.{headerRefusal, recordsIn, partyPlace}
+use Rattle.format.specs.Format.{recordsIn, partyPlace}
 use Rattle.format.specs.Spelling.{recordAt, recordsFrom, tableOf}
-use Rattle.on_image.specs.Intact.{Intact, AllIdle}
+use Rattle.on_image.specs.Intact.{Intact}
+use Rattle.on_image.specs.Run.{Begins}
 
 -- from a place on every byte is zero
 abbrev ZerosFrom : List ℕ → ℕ → Type 0
@@ -40,15 +42,20 @@ zero-records version (suc count) l at zeros =
     ap₂ (λ (r : Record) (rest : List Record). r ∷ rest) (zero-record version l at zeros)
     (zero-records version count l (at + 32) (later l at 32 zeros))
 
--- The records of 32 zero bytes each spell idle parties.
-pub all-idle-spells-idle-parties : (image : List ℕ) → AllIdle image → tableOf image ≡ replicate (partiesAt image) idle
-all-idle-spells-idle-parties image zeros = zero-records (versionAt image) (partiesAt image) image (recordsIn image) zeros
+-- An image at the beginning is intact, and spells idle parties.
+module _ (image : List ℕ) (p : Plain) (parties : ℕ) (begins : Begins image p parties) where
+  pub idle-parties-are-spelled : tableOf image ≡ replicate parties idle
+  idle-parties-are-spelled =
+      zero-records (versionAt image) (partiesAt image) image (recordsIn image) (begins .idle)
+      ∙ ap (λ (n : ℕ). replicate n idle) (begins .for-parties)
 
-pub all-idle-is-intact : (image : List ℕ) → AreBytes image → headerRefusal image ≡ 0 → AllIdle image → Intact image
-all-idle-is-intact image are taken zeros =
-    record {
-      bytes = are;
-      taken = taken;
-      spare = λ party known.
-          rw (zero-number 8 image (partyPlace image party + 24) (later image (partyPlace image party) 24 (later image (recordsIn image) (32 * party) zeros))) refl;
-    }
+  spare-is-zero : (party : ℕ) → ZerosFrom image (partyPlace image party + 24)
+  spare-is-zero party = later image (partyPlace image party) 24 (later image (recordsIn image) (32 * party) (begins .idle))
+
+  pub it-is-intact : Intact image
+  it-is-intact =
+      record {
+        bytes = begins .bytes;
+        taken = begins .taken;
+        spare = λ party known. rw (zero-number 8 image (partyPlace image party + 24) (spare-is-zero party)) refl;
+      }
