@@ -55,6 +55,12 @@ header-sized image e =
 pub same-header : (image other : List ℕ) → length image ≡ length other → Agree image other 0 8 → headerRefusal image ≡ headerRefusal other
 unfolding headerRefusal
 same-header image other long agree =
-    rw (long, agree 0 (omega arith) (omega arith), agree 1 (omega arith) (omega arith), agree 2 (omega arith) (omega arith),
-    agree 5 (omega arith) (omega arith), same-number 2 image other 3 (λ i lo hi. agree i (omega arith) (omega arith)),
-    same-number 2 image other 6 (λ i lo hi. agree i (omega arith) (omega arith))) refl
+    rw (
+      long,
+      agree 0 (omega arith) (omega arith),
+      agree 1 (omega arith) (omega arith),
+      agree 2 (omega arith) (omega arith),
+      agree 5 (omega arith) (omega arith),
+      same-number 2 image other 3 (λ i lo hi. agree i (omega arith) (omega arith)),
+      same-number 2 image other 6 (λ i lo hi. agree i (omega arith) (omega arith)),
+    ) refl

@@ -16,7 +16,7 @@ use Rattle.call.proofs.Calls.{table-stays-as-long}
 use Rattle.history.specs.Run.{State, begin, goesOn, looked, lineOf, leaves, numberIn}
 use Rattle.history.specs.Finished.{Asked, nothingYet, askedAfter}
 use Rattle.logic.proofs.Lists.{all-the-same}
-use Rattle.history.proofs.Parties.{looksNow, After, after-entry, look-after}
+use Rattle.history.proofs.Parties.{looksNow, After, after-entry, look-after, looks-stay-as-long}
 
 pub record Asks (n : ℕ) (a : Asked) (r : Record) : Type 0 where
   pub operation : a .operation ≡ r .operation
@@ -110,10 +110,7 @@ module _ (n : ℕ) (s : State) (asked : List Asked) (booked : Booked n s asked) 
   unfolding leaves
   booked-next =
       record {
-        looks-size =
-            whichever (λ (l : List ℕ). length l ≡ length (s .looks)) (looked s call (numberIn s call))
-            (length-set (s .looks) (partyOf call) n) refl
-            ∙ booked .looks-size ∙ sym (table-stays-as-long (s .strip) (s .table) call);
+        looks-size = looks-stay-as-long s n call ∙ booked .looks-size ∙ sym (table-stays-as-long (s .strip) (s .table) call);
         asked-size = asked-size-after s n asked call ∙ booked .asked-size ∙ sym (table-stays-as-long (s .strip) (s .table) call);
         asked-so = asks-next;
         looked-so = looked-next;

@@ -1,7 +1,7 @@
 -- FULL took effect at that attempt's stage 1 read and EMPTY at that attempt's stage 2 read: the party's last step that was not refused.
 use Prim.Native.Nat.{ℕ, zero, suc, _<_, _≤_}
 use mathlib.Core.Path.{_≡_, refl, sym, _∙_, ap, subst}
-use mathlib.Core.Bool.{Bool, true, false, true≢false}
+use mathlib.Core.Bool.{Bool, true, false}
 use mathlib.Core.Logic.{inl, inr}
 use mathlib.Core.List.{List}
 use lib.ListN.{getD}
@@ -16,8 +16,8 @@ use Rattle.record.specs.declared.Record.{Record}
 use Rattle.call.specs.Call.{Call, partyOf}
 use Rattle.history.specs.Run.{State, begin, leaves, lineOf, looked, numberIn}
 use Rattle.history.specs.Entries.{stateAt, recordAt, effectAt, LookedAt}
-use Rattle.history.proofs.Parties.{looksNow, look-is-a-step, look-after}
-use Rattle.history.proofs.Since.{Since, Early, since}
+use Rattle.history.proofs.Parties.{looksNow, look-after}
+use Rattle.history.proofs.Since.{Since, Early, since, refused-unlooked}
 use Rattle.history.proofs.Results.{a-result-ends}
 use Rattle.history.proofs.Explaining.{booked-at}
 
@@ -31,17 +31,6 @@ one-longer P e n before last m after within = go (eqb m n) refl
     go : (at : Bool) → eqb m n ≡ at → P m
     go true t = rw (eqb-true m n t) last
     go false t = let other = eqb-false m n t in before m after (omega arith)
-
--- whose call was refused has not looked
-refused-unlooked : (s : State) (call : Call) (i : ℕ) → (partyOf call ≡ i → isRefusal (numberIn s call) ≡ true) → looksNow s call i ≡ false
-refused-unlooked s call i refused = go (looksNow s call i) refl
-  where
-    go : (now : Bool) → looksNow s call i ≡ now → now ≡ false
-    go true e =
-        let each = both (looked s call (numberIn s call)) (eqb i (partyOf call)) e in
-        let none = look-is-a-step s call (each .0) .2 in
-        absurd (true≢false (sym (refused (sym (eqb-true i (partyOf call) (each .1)))) ∙ rw none refl))
-    go false e = refl
 
 module _ (strip : List ℕ) (parties : ℕ) (call : ℕ → Call) where
   abbrev first : State

@@ -20,3 +20,4 @@ pub mod Effects
 pub mod EverySchedule
 pub mod Since
 pub mod LastRead
+pub mod Told

@@ -4,7 +4,7 @@ use mathlib.Core.Path.{_≡_, refl, sym, _∙_, ap, subst}
 use mathlib.Core.Bool.{Bool, true, false, _&&_, _||_, true≢false}
 use mathlib.Core.Logic.{_⊎_, inl, inr}
 use mathlib.Core.List.{List}
-use lib.ListN.{length, getD, set}
+use lib.ListN.{length, getD, set, length-set}
 use lib.Seq.{getD-set-same, getD-set-other}
 use lib.Dec.{eqb}
 use borrow.Author.Tests.{eqb-true, eqb-false, eq-eqb, ne-eqb}
@@ -77,7 +77,7 @@ module _ (s : State) (entry : ℕ) where
           omega (arith, busy)
 
   -- only a step of a known party looks
-  looked-known : (call : Call) → looked s call (numberIn s call) ≡ true → partyOf call < length (s .table)
+  pub looked-known : (call : Call) → looked s call (numberIn s call) ≡ true → partyOf call < length (s .table)
   looked-known call looks = go (own s entry call)
     where
       is : (hint : ℕ) × (call ≡ Call.step (partyOf call) hint) × (numberIn s call ≡ 0)
@@ -88,6 +88,11 @@ module _ (s : State) (entry : ℕ) where
       go (Own.begins operation order start known none begun-is) = known
       go (Own.withdrawn other none ended) = absurd (true≢false (sym (ap isStep (is .1)) ∙ other))
       go (Own.steps hint step known busy how) = known
+
+  pub looks-stay-as-long : (call : Call) → length (leaves s entry call .looks) ≡ length (s .looks)
+  unfolding leaves
+  looks-stay-as-long call =
+      whichever (λ (l : List ℕ). length l ≡ length (s .looks)) (looked s call (numberIn s call)) (length-set (s .looks) (partyOf call) entry) refl
 
   -- the last look of each party
   pub look-after : length (s .looks) ≡ length (s .table) → (call : Call) (i : ℕ)

@@ -1,20 +1,21 @@
 -- How a party comes to stage 2 or 3, and stays there.
 use Prim.Native.Nat.{ℕ, suc, _≤_}
-use mathlib.Core.Path.{_≡_, refl, sym, ap}
-use mathlib.Core.Bool.{Bool, true, false}
+use mathlib.Core.Path.{_≡_, refl, sym, _∙_, ap}
+use mathlib.Core.Bool.{Bool, true, false, true≢false}
 use mathlib.Core.Logic.{_⊎_, inl, inr}
 use lib.ListN.{getD}
 use lib.Dec.{eqb}
 use borrow.Author.Tests.{eqb-true, eqb-false}
 use native.Mathlib.Omega.{arith}
+use Rattle.logic.proofs.Bools.{both}
 use Rattle.record.specs.Record.{idle}
 use Rattle.party.specs.Answer.{isRefusal}
 use Rattle.record.specs.declared.Record.{Record}
 use Rattle.call.specs.Call.{Call, partyOf}
 use Rattle.step.proofs.Stepped.{Stepped}
-use Rattle.history.specs.Run.{State, leaves, numberIn}
+use Rattle.history.specs.Run.{State, leaves, looked, numberIn}
 use Rattle.history.proofs.Own.{Own, own}
-use Rattle.history.proofs.Parties.{looksNow, step-looks-now, record-elsewhere}
+use Rattle.history.proofs.Parties.{looksNow, look-is-a-step, step-looks-now, record-elsewhere}
 
 -- A party that is at stage 2 or 3 after a call: it looks now, from the stage before; or it was there, and no call of its own was taken.
 pub data Since (s : State) (call : Call) (i : ℕ) (r next : Record) : Type 0 where
@@ -34,6 +35,17 @@ came-from : (r next : Record) → (next .stage ≡ 2 → r .stage ≡ 1) → (ne
     → ((r .stage ≡ 1) ⊎ (r .stage ≡ 2)) × (next .stage ≡ suc (r .stage))
 came-from r next to-2 to-3 (inl e) = let from = to-2 e in (inl from, omega arith)
 came-from r next to-2 to-3 (inr e) = let from = to-3 e in (inr from, omega arith)
+
+-- whose call was refused has not looked
+pub refused-unlooked : (s : State) (call : Call) (i : ℕ) → (partyOf call ≡ i → isRefusal (numberIn s call) ≡ true) → looksNow s call i ≡ false
+refused-unlooked s call i refused = go (looksNow s call i) refl
+  where
+    go : (now : Bool) → looksNow s call i ≡ now → now ≡ false
+    go true e =
+        let each = both (looked s call (numberIn s call)) (eqb i (partyOf call)) e in
+        let none = look-is-a-step s call (each .0) .2 in
+        absurd (true≢false (sym (refused (sym (eqb-true i (partyOf call) (each .1)))) ∙ rw none refl))
+    go false e = refl
 
 module _ (s : State) (entry : ℕ) where
   abbrev recordAt : ℕ → Record

@@ -1,5 +1,6 @@
 pub mod Run
 pub mod Entries
 pub mod Finished
+pub mod Told
 pub mod Explained
 pub mod Accounts

@@ -14,7 +14,7 @@ use Rattle.strip.proofs.Laying.{fresh-length}
 use Rattle.history.specs.Run.{Line, noCall, linesFrom, endFrom}
 use Rattle.history.specs.Finished.{isResult}
 use Rattle.history.proofs.Counters.{the-strip-stays-as-long}
-use Rattle.listing.specs.Listing.{effectText, lineText, linesText, runText, headerText, wordsText, cellsText, firstState, listingText, longest}
+use Rattle.listing.specs.Listing.{effectText, lineText, linesText, runText, headerText, wordsText, cellsText, firstState, listingText, longest, Narrow}
 use Rattle.listing.proofs.Bounds.{Bounded, noLine, lines-are-bounded}
 
 effect-length : (line : Line) → line .effect < 2048 → length (effectText line) ≤ 4
@@ -47,10 +47,6 @@ words-length (word ∷ words) =
     let d1 = digits-most 9 (valueOf word) in
     let d2 = digits-most 9 (counterOf word) in
     simp length-append (omega arith)
-
--- the number of a party has three digits at most
-abbrev pub Narrow : Call → Type 0
-Narrow call = partyOf call < 256
 
 lines-length : (calls : List Call) (lines : List Line) (entry : ℕ) → Every Narrow noCall calls → Every Bounded noLine lines
     → entry + length calls ≤ 2048 → length (linesText entry calls lines) ≤ 28 * length calls

@@ -1,5 +1,5 @@
 -- The listing of a run, as document 01 prints it.
-use Prim.Native.Nat.{ℕ, suc}
+use Prim.Native.Nat.{ℕ, suc, _<_}
 use mathlib.Core.List.{List, [], _∷_, _++_}
 use Rattle.logic.specs.Pick.{pick}
 use Rattle.word.specs.Word.{valueOf, counterOf}
@@ -56,6 +56,10 @@ unfoldable pub listingText : (max divide parties : ℕ) → List Call → List �
 listingText max divide parties calls =
     let first = firstState max divide parties in
     headerText max divide parties ++ (runText first 0 calls ++ cellsText (endFrom first 0 calls .strip))
+
+-- the party of an entry is a byte
+abbrev pub Narrow : Call → Type 0
+Narrow call = partyOf call < 256
 
 -- no listing of a schedule file is longer
 abbrev pub longest : ℕ

@@ -31,8 +31,13 @@ zero-number (suc width) l at zeros =
 zero-record : (version : ℕ) (l : List ℕ) (at : ℕ) → ZerosFrom l at → recordAt version l at ≡ idle
 unfolding recordAt
 zero-record version l at zeros =
-    rw (zero-number 2 l (at + 2) (later l at 2 zeros), zero-number 4 l (at + 4) (later l at 4 zeros),
-    zero-number 8 l (at + 8) (later l at 8 zeros), zero-number 8 l (at + 16) (later l at 16 zeros), zeros 1)
+    rw (
+      zero-number 2 l (at + 2) (later l at 2 zeros),
+      zero-number 4 l (at + 4) (later l at 4 zeros),
+      zero-number 8 l (at + 8) (later l at 8 zeros),
+      zero-number 8 l (at + 16) (later l at 16 zeros),
+      zeros 1,
+    )
     (let same : at + 0 ≡ at = omega arith in rw (rw same at (zeros 0)) refl)
 
 zero-records : (version count : ℕ) (l : List ℕ) (at : ℕ) → ZerosFrom l at → recordsFrom version l at count ≡ replicate count idle

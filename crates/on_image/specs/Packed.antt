@@ -9,10 +9,10 @@ use Rattle.strip.specs.Shape.{StandsFor}
 use Rattle.format.specs.Spelling.{stripOf}
 use Rattle.image.specs.Calls.{imageOf}
 use Rattle.pds.specs.Packed.{pdsNumber, pdsOrder, PackedPromise}
-use Rattle.history.specs.Run.{Line, linesFrom}
+use Rattle.history.specs.Run.{Line}
 use Rattle.history.specs.Finished.{finishedOf}
+use Rattle.history.specs.Told.{effectsOf}
 use Rattle.history.specs.Explained.{Explained}
-use Rattle.on_image.specs.Run.{firstOn}
 
 -- each keeps its promise on the bytes that the one before left: these are the answers, and the bytes after the last
 abbrev pub InTurn : (image : List ℕ) → List Call → (answers last : List ℕ) → Type 0
@@ -22,20 +22,20 @@ InTurn image (call ∷ calls) [] last = ⊥
 InTurn image (call ∷ calls) (answer ∷ answers) last =
     (next : List ℕ) × PackedPromise (imageOf image call) answer next × InTurn next calls answers last
 
--- the lines of a run: what pds_number and pds_order read in each answer, and where it took effect
-unfoldable pub linesTold : (answers effects : List ℕ) → List Line
-linesTold [] effects = []
-linesTold (answer ∷ answers) [] = []
-linesTold (answer ∷ answers) (effect ∷ effects) =
-    record { number = pdsNumber answer; carried = pdsOrder answer; effect = effect } ∷ linesTold answers effects
+-- what pds_number and pds_order read in each answer, and where it took effect
+unfoldable pub linesOf : (answers effects : List ℕ) → List Line
+linesOf [] effects = []
+linesOf (answer ∷ answers) [] = []
+linesOf (answer ∷ answers) (effect ∷ effects) =
+    record { number = pdsNumber answer; carried = pdsOrder answer; effect = effect } ∷ linesOf answers effects
 
--- where each took effect, in the run of the strip that the image spells
-abbrev pub effectsOn : (image : List ℕ) (parties : ℕ) → List Call → List ℕ
-effectsOn image parties calls = map (λ (line : Line). line .effect) (linesFrom (firstOn image parties) 0 calls)
+-- the lines of the run, read from the calls and the answers and from nothing else
+abbrev pub linesTold : (parties : ℕ) → List Call → (answers : List ℕ) → List Line
+linesTold parties calls answers = linesOf answers (effectsOf parties calls (map pdsNumber answers))
 
--- Demand 3 as C sees it: the finished operations, read from the calls and the answers, are explained from the plain strip p on, and the
--- last bytes spell a strip that stands for its end.
-abbrev pub ExplainedInTurn : (image : List ℕ) (p : Plain) (parties : ℕ) → List Call → (answers last : List ℕ) → Type 0
-ExplainedInTurn image p parties calls answers last =
+-- Demand 3 as C sees it: the finished operations, read so, are explained from the plain strip p on, and the last bytes spell a strip
+-- that stands for its end.
+abbrev pub ExplainedInTurn : (p : Plain) (parties : ℕ) → List Call → (answers last : List ℕ) → Type 0
+ExplainedInTurn p parties calls answers last =
     (q : Plain) × StandsFor (stripOf last) q
-    × Explained p (finishedOf parties calls (linesTold answers (effectsOn image parties calls))) (length calls) q
+    × Explained p (finishedOf parties calls (linesTold parties calls answers)) (length calls) q

@@ -19,8 +19,8 @@ use Rattle.strip.proofs.Laying.{laid-leaves}
 use Rattle.entry.specs.Entry.{callAt}
 use Rattle.entry.proofs.Asks.{party-is, order-fits}
 use Rattle.history.specs.Run.{noCall, endFrom}
-use Rattle.listing.specs.Listing.{runText, headerText, cellsText, listingText, longest}
-use Rattle.listing.proofs.Longest.{Narrow, no-listing-is-longer}
+use Rattle.listing.specs.Listing.{runText, headerText, cellsText, listingText, longest, Narrow}
+use Rattle.listing.proofs.Longest.{no-listing-is-longer}
 use Rattle.header.specs.Header.{isMarked, partiesAt, maxAt, versionAt, countsFit}
 use Rattle.schedule.specs.File.{divideAt, entriesOf, lengthFits, fileRefusal, callsFrom, callsOf}
 use Rattle.schedule.specs.List.{listingOf, firstOf}
