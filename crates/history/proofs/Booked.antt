@@ -13,10 +13,10 @@ use Rattle.record.specs.Record.{idle}
 use Rattle.record.specs.declared.Record.{Record}
 use Rattle.call.specs.Call.{Call, partyOf}
 use Rattle.call.proofs.Calls.{table-stays-as-long}
-use Rattle.history.specs.Run.{State, begin, goesOn, looked, lineOf, leaves, numberIn}
+use Rattle.history.specs.Run.{State, begin, goesOn, looked, lineOf, leaves, numberIn, looksNow}
 use Rattle.history.specs.Finished.{Asked, nothingYet, askedAfter}
 use Rattle.logic.proofs.Lists.{all-the-same}
-use Rattle.history.proofs.Parties.{looksNow, After, after-entry, look-after, looks-stay-as-long}
+use Rattle.history.proofs.Parties.{After, after-entry, look-after, looks-stay-as-long}
 
 pub record Asks (n : ℕ) (a : Asked) (r : Record) : Type 0 where
   pub operation : a .operation ≡ r .operation

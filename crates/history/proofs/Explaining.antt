@@ -24,7 +24,7 @@ use Rattle.history.specs.Explained.{Agrees, Explained}
 use Rattle.history.proofs.Booked.{Booked, booked-first, booked-next, LastLook, last-look}
 use Rattle.history.proofs.Claimed.{Claimed, claimed-next}
 use Rattle.history.proofs.Entries.{callIn, askedAt, addedAt, run-ends-at, run-finishes}
-use Rattle.history.proofs.Machine.{Says, thensAfter, Machine}
+use Rattle.history.specs.Machine.{Says, thensAfter, Machine}
 use Rattle.history.proofs.Tracing.{look-is-quiet, adds}
 
 -- what is booked and claimed before each entry, whatever the machine

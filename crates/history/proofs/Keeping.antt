@@ -21,10 +21,10 @@ use Rattle.invariant.proofs.Writes.{strip-stays-as-long}
 use Rattle.invariant.proofs.CallEffects.{CallEffect, call-effect}
 use Rattle.invariant.proofs.Looks.{idle-remembers}
 use Rattle.invariant.proofs.Remembers.{look-remembers, remembers-kept}
-use Rattle.history.specs.Run.{State, leaves, looked, numberIn}
+use Rattle.history.specs.Run.{State, leaves, looked, numberIn, looksNow}
 use Rattle.logic.proofs.Lists.{all-the-same}
-use Rattle.history.proofs.Parties.{looksNow, look-is-a-step, step-looks-now}
-use Rattle.history.proofs.Machine.{Says, thensAfter, Goes, Machine}
+use Rattle.history.proofs.Parties.{look-is-a-step, step-looks-now}
+use Rattle.history.specs.Machine.{Says, thensAfter, Goes, Machine}
 
 pub record Keeps (s : State) (p : Plain) (thens : ℕ → Plain) : Type 0 where
   pub fits : stripFits (length (s .strip)) ≡ true

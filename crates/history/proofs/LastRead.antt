@@ -14,9 +14,9 @@ use Rattle.record.specs.Record.{idle}
 use Rattle.party.specs.Answer.{isRefusal}
 use Rattle.record.specs.declared.Record.{Record}
 use Rattle.call.specs.Call.{Call, partyOf}
-use Rattle.history.specs.Run.{State, begin, leaves, lineOf, looked, numberIn}
+use Rattle.history.specs.Run.{State, begin, leaves, lineOf, looked, numberIn, looksNow}
 use Rattle.history.specs.Entries.{stateAt, recordAt, effectAt, LookedAt}
-use Rattle.history.proofs.Parties.{looksNow, look-after}
+use Rattle.history.proofs.Parties.{look-after}
 use Rattle.history.proofs.Since.{Since, Early, since, refused-unlooked}
 use Rattle.history.proofs.Results.{a-result-ends}
 use Rattle.history.proofs.Explaining.{booked-at}

@@ -6,8 +6,7 @@ pub mod Results
 pub mod Entries
 pub mod Booked
 pub mod Claimed
--- Demand 3 over a machine: what is asked of it, and that it then explains every schedule
-pub mod Machine
+-- Demand 3 over a machine: one that supplies what specs/Machine asks for explains every schedule
 pub mod Tracing
 pub mod Explaining
 -- The strip is such a machine

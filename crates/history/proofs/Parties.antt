@@ -18,7 +18,7 @@ use Rattle.party.proofs.Refusals.{refusal-is-not-0}
 use Rattle.call.specs.Call.{Call, partyOf}
 use Rattle.call.proofs.Calls.{other-records-stand}
 use Rattle.step.proofs.Stepped.{Stepped}
-use Rattle.history.specs.Run.{State, goesOn, isStep, looked, lineOf, leaves, numberIn}
+use Rattle.history.specs.Run.{State, goesOn, isStep, looked, lineOf, leaves, numberIn, looksNow}
 use Rattle.history.specs.Finished.{Asked, nothingYet, askedAfter}
 use Rattle.history.proofs.Own.{Own, own}
 
@@ -29,10 +29,6 @@ look-is-a-step s (Call.start party operation order) looks = absurd (true≢false
 look-is-a-step s (Call.step party hint) looks =
     (hint, refl, eqb-true (numberIn s (Call.step party hint)) 0 (both (goesOn (numberIn s (Call.step party hint))) _ looks .0))
 look-is-a-step s (Call.withdraw party) looks = absurd (true≢false (sym looks))
-
--- whether party i looks at this entry
-abbrev pub looksNow : State → Call → (i : ℕ) → Bool
-looksNow s call i = looked s call (numberIn s call) && eqb i (partyOf call)
 
 -- a step from stage 1 or 2 that goes on looks
 pub step-looks-now : (s : State) (i hint : ℕ) → numberIn s (Call.step i hint) ≡ 0

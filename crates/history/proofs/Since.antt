@@ -13,9 +13,9 @@ use Rattle.party.specs.Answer.{isRefusal}
 use Rattle.record.specs.declared.Record.{Record}
 use Rattle.call.specs.Call.{Call, partyOf}
 use Rattle.step.proofs.Stepped.{Stepped}
-use Rattle.history.specs.Run.{State, leaves, looked, numberIn}
+use Rattle.history.specs.Run.{State, leaves, looked, numberIn, looksNow}
 use Rattle.history.proofs.Own.{Own, own}
-use Rattle.history.proofs.Parties.{looksNow, look-is-a-step, step-looks-now, record-elsewhere}
+use Rattle.history.proofs.Parties.{look-is-a-step, step-looks-now, record-elsewhere}
 
 -- A party that is at stage 2 or 3 after a call: it looks now, from the stage before; or it was there, and no call of its own was taken.
 pub data Since (s : State) (call : Call) (i : ℕ) (r next : Record) : Type 0 where

@@ -14,9 +14,9 @@ use Rattle.record.specs.Record.{idle}
 use Rattle.party.specs.Answer.{isRefusal}
 use Rattle.call.specs.Call.{Call, partyOf}
 use Rattle.call.proofs.Calls.{table-stays-as-long}
-use Rattle.history.specs.Run.{State, Line, begin, looked, leaves, lineOf, linesFrom, numberIn, effectOf}
+use Rattle.history.specs.Run.{State, Line, begin, looked, leaves, lineOf, linesFrom, numberIn, effectOf, looksNow}
 use Rattle.history.specs.Told.{lastAfter, effectsFrom, effectsOf}
-use Rattle.history.proofs.Parties.{looksNow, look-is-a-step, looked-known, look-after, looks-stay-as-long}
+use Rattle.history.proofs.Parties.{look-is-a-step, looked-known, look-after, looks-stay-as-long}
 use Rattle.history.proofs.Results.{a-result-ends}
 use Rattle.history.proofs.Since.{Since, Early, since, refused-unlooked}
 

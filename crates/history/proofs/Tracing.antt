@@ -19,7 +19,7 @@ use Rattle.history.specs.Explained.{Agrees}
 use Rattle.history.proofs.Parties.{look-is-a-step}
 use Rattle.history.proofs.Results.{looked-before, a-result-ends}
 use Rattle.history.proofs.Booked.{Booked, Asks}
-use Rattle.history.proofs.Machine.{Says}
+use Rattle.history.specs.Machine.{Says}
 
 -- who looks goes on, so the plain strip stays as it was
 pub look-is-quiet : (s : State) (p : Plain) (thens : ℕ → Plain) (call : Call) (next : Plain) → looked s call (numberIn s call) ≡ true

@@ -55,6 +55,10 @@ after s call = callOf (s .strip) (s .table) call
 abbrev pub numberIn : State → Call → ℕ
 numberIn s call = numberOf (after s call .answer)
 
+-- whether party i looks at this entry
+abbrev pub looksNow : State → Call → (i : ℕ) → Bool
+looksNow s call i = looked s call (numberIn s call) && eqb i (partyOf call)
+
 unfoldable pub lineOf : State → (entry : ℕ) → Call → Line
 lineOf s entry call =
     record {

@@ -1,4 +1,4 @@
--- What is asked of the machine, one call at a time: an invariant of a state, of the plain strip p that its strip stands for, and of
+-- No public promise speaks of this file, nor does demand 3's theorem: proofs go by it. What is asked of a machine, one call at a time: an invariant of a state, of the plain strip p that its strip stands for, and of
 -- `thens`, the plain strip at each party's last look.
 use Prim.Native.Nat.{ℕ}
 use mathlib.Core.Path.{_≡_}
@@ -12,9 +12,8 @@ use Rattle.call.specs.Call.{Call, Fitting, partyOf, recordOf, callOf}
 use Rattle.plain.specs.Plain.{Plain}
 use Rattle.strip.specs.Shape.{StandsFor}
 use Rattle.invariant.specs.Remembered.{RecordYields}
-use Rattle.history.specs.Run.{State, begin, leaves, numberIn}
+use Rattle.history.specs.Run.{State, begin, leaves, numberIn, looksNow}
 use Rattle.history.specs.Finished.{isResult}
-use Rattle.history.proofs.Parties.{looksNow}
 
 -- A call that ends no operation leaves the plain strip. PUSHED and POPPED are what the record's operation gives on it now; FULL and
 -- EMPTY what it gave, and left, at the party's last look.
