@@ -13,7 +13,7 @@ for line in Path("crates.txt").read_text().splitlines():
         CRATES[crate] = uses.split()
 
 faults = []
-counts = dict.fromkeys(["links", "names", "calls", "paths", "edits", "crates", "programs"], 0)
+counts = dict.fromkeys(["links", "names", "statements", "calls", "paths", "edits", "crates", "programs"], 0)
 
 
 def check(kind, held, fault):
@@ -88,6 +88,43 @@ def check_known():
                     check("names", occurs(name, text), f"{where}: `{name}` is nowhere in the sources")
 
 
+def defined_in(proofs):
+    """The public definitions of a file of proofs. A view (`data`) is none: its cases are what a theorem says."""
+    return set(re.findall(r"^ *(?:(?:abbrev|unfoldable) pub|pub record) ([^\s:({]+)", proofs.read_text(), re.M))
+
+
+def at_hand(proofs):
+    """Those of a file and of the files of proofs that it uses."""
+    names = defined_in(proofs)
+    for crate, module, imported in re.findall(r"^use Rattle·(\w+)(?:·proofs)?\.proofs\.([\w.+]+)\.\{([^}]*)\}", proofs.read_text(), re.M):
+        used = Path("crates", crate, "proofs", *module.split(".")).with_suffix(".antt")
+        names |= defined_in(used) & {name.strip() for name in imported.split(",")} if used.is_file() else set()
+    return names
+
+
+def statements(text):
+    """Each public theorem's name and statement, with what the modules around it assume."""
+    theorem = r"^( *)pub ([^\s:]+) :(.*?)\n\1(?:unfolding .*?\n\1)?\2(?= )"
+    around = [(m.start(), len(m[1]), m[2]) for m in re.finditer(r"^( *)module _ (.*?) where$", text, re.M | re.S)]
+    for m in re.finditer(theorem, text, re.M | re.S):
+        assumed, depth = "", len(m[1])
+        for start, indent, said in reversed(around):
+            if start < m.start() and indent < depth:
+                assumed, depth = said + assumed, indent
+        yield m[2], assumed + m[3]
+
+
+def check_statements():
+    """What the statement of a theorem that a page names speaks of is defined in specs/, not among proofs. A theorem's name is a sentence."""
+    named = {name for page in PAGES for _, line in prose(page) for name in NAME.findall(line)}
+    for path in sorted(Path("crates").glob("*/proofs/**/*.antt")):
+        there = at_hand(path)
+        for theorem, said in statements(path.read_text()):
+            if theorem in named and "-" in theorem:
+                among = sorted(name for name in there if occurs(name, said))
+                check("statements", not among, f"{path}: `{theorem}` speaks of {', '.join(among)}, defined among proofs")
+
+
 def check_calls():
     """`crate::name` is a public function, type or module of that crate. BENCHMARK has the compiler's names, of the day it ran."""
     for page in PAGES:
@@ -159,7 +196,7 @@ def check_programs():
         check("programs", path in dict(shown), f"README.md: does not show {path}")
 
 
-for part in [check_links, check_names, check_known, check_calls, check_paths, check_edits, check_map, check_programs]:
+for part in [check_links, check_names, check_known, check_statements, check_calls, check_paths, check_edits, check_map, check_programs]:
     part()
 for kind, count in counts.items():
     if count == 0:

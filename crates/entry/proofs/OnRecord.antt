@@ -4,20 +4,20 @@ use Prim.Native.Nat.{ℕ}
 use mathlib.Core.Path.{_≡_, refl, sym, _∙_}
 use mathlib.Core.Bool.{Bool, true, false}
 use mathlib.Core.List.{List}
-use lib.ListN.{length, set}
+use lib.ListN.{length}
 use lib.Seq.{set-getD}
 use lib.Dec.{eqb}
 use borrow.Author.Tests.{eqb-true, eqb-false, eq-eqb, ne-eqb}
-use Rattle.party.specs.Answer.{numberOf, isRefusal, refused, RefusedKeeps}
+use Rattle.party.specs.Answer.{refused}
 use Rattle.record.specs.declared.Record.{Record}
 use Rattle.party.specs.declared.Answered.{Answered}
 use Rattle.party.proofs.Kept.{refused-start-changes-nothing, refused-withdraw-changes-nothing}
 use Rattle.step.specs.Step.{maxOf}
 use Rattle.step.proofs.Kept.{refused-step-changes-nothing}
-use Rattle.call.specs.Call.{Call, partyOf, gate, ownOf, ownLeaves, Left, recordOf, callOf}
+use Rattle.call.specs.Call.{Call, gate, ownOf, ownLeaves, recordOf, callOf}
 use Rattle.call.specs.Call.Call.{start, step, withdraw}
 use Rattle.call.proofs.Called.{call-through, call-away}
-use Rattle.entry.specs.OnRecord.{onRecordOf, onRecordLeaves, ChangesNothing}
+use Rattle.entry.specs.OnRecord.{onRecordOf, onRecordLeaves, ChangesNothing, onTable}
 
 refused-own-changes-nothing : (strip : List ℕ) (r : Record) (call : Call)
     → ChangesNothing strip r (ownOf strip r call) (ownLeaves strip r call)
@@ -61,24 +61,13 @@ module _ (strip : List ℕ) (parties : ℕ) (r : Record) (call : Call) where
 
 -- A call on a strip and a table is that call on its party's record.
 module _ (strip : List ℕ) (table : List Record) (call : Call) where
-  abbrev pub given : Answered
-  given = onRecordOf strip (length table) (recordOf table call) call
-
-  abbrev pub left : Left
-  left =
-      record {
-        answer = given .answer;
-        strip = onRecordLeaves strip (length table) (recordOf table call) call;
-        table = set table (partyOf call) (given .rec);
-      }
-
-  pub a-call-is-on-its-record : callOf strip table call ≡ left
+  pub a-call-is-on-its-record : callOf strip table call ≡ onTable strip table call
   a-call-is-on-its-record = go (eqb number 0) refl
     where
       number : ℕ
       number = gate (length strip) (length table) call
 
-      go : (clear : Bool) → eqb number 0 ≡ clear → callOf strip table call ≡ left
+      go : (clear : Bool) → eqb number 0 ≡ clear → callOf strip table call ≡ onTable strip table call
       go true e =
           let clear = eqb-true number 0 e in
           let own = let-through strip (length table) (recordOf table call) call clear in

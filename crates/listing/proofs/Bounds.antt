@@ -11,8 +11,8 @@ use Rattle.logic.specs.Every.{Every}
 use Rattle.logic.proofs.Bools.{whichever}
 use Rattle.logic.proofs.Lists.{every-set, all-the-same}
 use Rattle.call.specs.Call.{Call, partyOf}
-use Rattle.history.specs.Run.{State, Line, begin, looked, numberIn, lineOf, leaves, linesFrom}
 use Rattle.call.proofs.Bounds.{no-answer-is-above-19, every-carried-order-has-32-bits}
+use Rattle.history.specs.Run.{State, Line, begin, looked, numberIn, lineOf, leaves, linesFrom}
 
 -- every look lies among the entries
 abbrev Early : ℕ → Type 0

@@ -10,11 +10,16 @@ use Rattle.party.specs.Answer.{numberOf, carriedOf}
 use Rattle.party.specs.declared.Answer.{Answer}
 use Rattle.call.specs.Call.{Call, Fitting}
 use Rattle.plain.specs.Plain.{Plain, freshPlain}
+use Rattle.strip.specs.Shape.{StandsFor}
+use Rattle.strip.proofs.Shapes.{a-strip-stands-for-one-plain-strip}
 use Rattle.format.specs.Spelling.{stripOf}
 use Rattle.image.specs.Calls.{imageOf, layOf}
 use Rattle.history.specs.Run.{Line, linesFrom, noCall}
+use Rattle.history.specs.Finished.{finishedOf}
 use Rattle.history.specs.Told.{effectsOf}
+use Rattle.history.specs.Accounts.{Closed}
 use Rattle.history.proofs.Told.{effects-are-told}
+use Rattle.history.proofs.Accounts.{from-fresh-each-account-is-closed}
 use Rattle.pds.specs.Packed.{pdsNumber, pdsOrder, PackedPromise}
 use Rattle.pds.proofs.Unpacked.{a-packed-answer-tells-its-number-and-order}
 use Rattle.on_image.specs.Run.{Begins, answersOn, imageAfter, firstOn, RunsAs}
@@ -90,9 +95,17 @@ module _ (image : List ℕ) (p : Plain) (parties : ℕ) (begins : Begins image p
       (explained .1, rw (in-turn-ends calls image answers last turn) (explained .2), rw the-lines-are-told (explained .3))
 
 -- What pds_lay leaves where it answers 0 is such an image, with the divide that it was given.
-pub every-run-of-C-calls-after-pds-lay-is-explained : (bytes : List ℕ) (max parties divide : ℕ) (image : List ℕ)
-    → PackedPromise (layOf bytes max parties divide) 0 image
-    → (calls : List Call) → Every Fitting noCall calls → (answers last : List ℕ) → InTurn image calls answers last
-    → ExplainedInTurn (freshPlain max divide) parties calls answers last
-every-run-of-C-calls-after-pds-lay-is-explained bytes max parties divide image laid =
-    every-run-of-C-calls-is-explained image (freshPlain max divide) parties (what-pds-lay-leaves-begins bytes max parties divide image laid)
+module _ (bytes : List ℕ) (max parties divide : ℕ) (image : List ℕ) (laid : PackedPromise (layOf bytes max parties divide) 0 image)
+    (calls : List Call) (fitting : Every Fitting noCall calls) (answers last : List ℕ) (turn : InTurn image calls answers last) where
+  pub every-run-of-C-calls-after-pds-lay-is-explained : ExplainedInTurn (freshPlain max divide) parties calls answers last
+  every-run-of-C-calls-after-pds-lay-is-explained =
+      every-run-of-C-calls-is-explained image (freshPlain max divide) parties
+      (what-pds-lay-leaves-begins bytes max parties divide image laid) calls fitting answers last turn
+
+  -- No order is lost, doubled or made up in them.
+  pub the-accounts-of-C-calls-are-closed : (q : Plain) → StandsFor (stripOf last) q
+      → (order : ℕ) → Closed order q (finishedOf parties calls (linesTold parties calls answers))
+  the-accounts-of-C-calls-are-closed q stands order =
+      let explained = every-run-of-C-calls-after-pds-lay-is-explained in
+      rw (a-strip-stands-for-one-plain-strip (stripOf last) q (explained .0) stands (explained .1))
+      (from-fresh-each-account-is-closed max divide (explained .2) order)
