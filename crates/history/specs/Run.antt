@@ -30,6 +30,10 @@ pub record Line : Type 0 where
   pub carried : ℕ
   pub effect : ℕ
 
+-- stands for what is past the end of a list of lines
+abbrev pub noLine : Line
+noLine = record { number = 0; carried = 0; effect = 0 }
+
 abbrev pub goesOn : (number : ℕ) → Bool
 goesOn number = eqb number 0
 

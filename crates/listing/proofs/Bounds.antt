@@ -12,7 +12,7 @@ use Rattle.logic.proofs.Bools.{whichever}
 use Rattle.logic.proofs.Lists.{every-set, all-the-same}
 use Rattle.call.specs.Call.{Call, partyOf}
 use Rattle.call.proofs.Bounds.{no-answer-is-above-19, every-carried-order-has-32-bits}
-use Rattle.history.specs.Run.{State, Line, begin, looked, numberIn, lineOf, leaves, linesFrom}
+use Rattle.history.specs.Run.{State, Line, begin, looked, numberIn, lineOf, leaves, linesFrom, noLine}
 
 -- every look lies among the entries
 abbrev Early : ℕ → Type 0
@@ -29,9 +29,6 @@ pub record Bounded (line : Line) : Type 0 where
   pub number-is : line .number ≤ 19
   pub carried-is : line .carried < 4294967296
   pub effect-is : line .effect < 2048
-
-abbrev pub noLine : Line
-noLine = record { number = 0; carried = 0; effect = 0 }
 
 bounded-on : (calls : List Call) (entry : ℕ) (s : State) → Every Early 0 (s .looks) → entry + length calls ≤ 2048
     → Every Bounded noLine (linesFrom s entry calls)

@@ -11,11 +11,11 @@ use Rattle.word.specs.Word.{valueOf, counterOf}
 use Rattle.call.specs.Call.{Call, partyOf}
 use Rattle.strip.specs.Lay.{freshStrip}
 use Rattle.strip.proofs.Laying.{fresh-length}
-use Rattle.history.specs.Run.{Line, noCall, linesFrom, endFrom}
+use Rattle.history.specs.Run.{Line, noCall, linesFrom, endFrom, noLine}
 use Rattle.history.specs.Finished.{isResult}
 use Rattle.history.proofs.Counters.{the-strip-stays-as-long}
 use Rattle.listing.specs.Listing.{effectText, lineText, linesText, runText, headerText, wordsText, cellsText, firstState, listingText, longest, Narrow}
-use Rattle.listing.proofs.Bounds.{Bounded, noLine, lines-are-bounded}
+use Rattle.listing.proofs.Bounds.{Bounded, lines-are-bounded}
 
 effect-length : (line : Line) → line .effect < 2048 → length (effectText line) ≤ 4
 effect-length line h =

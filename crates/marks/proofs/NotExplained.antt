@@ -23,7 +23,7 @@ use Rattle.history.specs.Explained.{Agrees, Explained}
 use Rattle.history.proofs.EverySchedule.{every-schedule-on-a-fresh-strip-is-explained}
 use Rattle.marks.specs.Replay.{allSame, plainOf, samePlain, replays}
 use Rattle.marks.specs.Marks.{markCalls, afterM1, m3}
-use Rattle.marks.specs.Moved.{linesOf, finishedBy, emptyAtItsAnswer, pushedAtItsStart}
+use Rattle.marks.specs.Moved.{markLines, finishedBy, emptyAtItsAnswer, pushedAtItsStart}
 
 same-orders : (orders : List ℕ) → allSame eqb orders orders ≡ true
 unfolding allSame
@@ -57,7 +57,7 @@ each-fits (call ∷ calls) fit zero within = fit .0
 each-fits (call ∷ calls) fit (suc i) within = each-fits calls (fit .1) i (omega arith)
 
 -- As it is, M3's run is explained, as every schedule on a fresh strip is.
-pub m3-as-it-is-is-explained : (q : Plain) × Explained (freshPlain 2 1) (finishedBy m3 (linesOf m3)) 9 q
+pub m3-as-it-is-is-explained : (q : Plain) × Explained (freshPlain 2 1) (finishedBy m3 (markLines m3)) 9 q
 unfolding Fit
 m3-as-it-is-is-explained =
     let fits : Fit (markCalls m3) = (omega arith, (omega arith, (tt, (tt, (tt, (tt, (tt, (tt, (tt, tt))))))))) in

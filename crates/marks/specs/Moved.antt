@@ -2,26 +2,22 @@
 use Prim.Native.Nat.{ℕ}
 use mathlib.Core.List.{List}
 use lib.ListN.{getD, set}
-use Rattle.history.specs.Run.{Line, linesFrom}
+use Rattle.history.specs.Run.{Line, noLine, linesFrom}
 use Rattle.history.specs.Finished.{Finished, finishedOf}
 use Rattle.marks.specs.Marks.{Mark, markCalls, markBegins, m1, m3}
 
-abbrev pub linesOf : Mark → List Line
-linesOf m = linesFrom (markBegins m) 0 (markCalls m)
+abbrev pub markLines : Mark → List Line
+markLines m = linesFrom (markBegins m) 0 (markCalls m)
 
 -- what is read as finished from a mark's calls and these lines
 abbrev pub finishedBy : Mark → List Line → List Finished
 finishedBy m lines = finishedOf (m .parties) (markCalls m) lines
 
--- stands for what is past the end of a list of lines
-abbrev pub noLine : Line
-noLine = record { number = 0; carried = 0; effect = 0 }
-
 -- the lines of a mark's run, that of one entry with another effect
 abbrev pub moved : Mark → (entry effect : ℕ) → List Line
 moved m entry effect =
-    let line = getD (linesOf m) entry noLine in
-    set (linesOf m) entry (record { number = line .number; carried = line .carried; effect = effect })
+    let line = getD (markLines m) entry noLine in
+    set (markLines m) entry (record { number = line .number; carried = line .carried; effect = effect })
 
 -- M3: EMPTY, answered by entry 8, took effect at its look, entry 6; here at its answer
 abbrev pub emptyAtItsAnswer : List Finished

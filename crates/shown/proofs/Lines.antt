@@ -11,10 +11,10 @@ use Rattle.logic.specs.Every.{Every}
 use Rattle.logic.proofs.Bools.{whichever}
 use Rattle.text.specs.Text.{decimal, spaced}
 use Rattle.call.specs.Call.{Call, partyOf}
-use Rattle.history.specs.Run.{State, Line, lineOf, leaves, linesFrom}
+use Rattle.history.specs.Run.{State, Line, lineOf, leaves, linesFrom, noLine}
 use Rattle.history.specs.Finished.{isResult}
 use Rattle.listing.specs.Listing.{effectText, lineText, linesText, runText}
-use Rattle.listing.proofs.Bounds.{Bounded, noLine}
+use Rattle.listing.proofs.Bounds.{Bounded}
 use Rattle.shown.specs.Shown.{split, decimalFrom, decimalIn, rows, shownLine}
 use Rattle.shown.proofs.Splitting.{lacks, lacks-both, digits-lack, first-piece, only-piece, number-first}
 use Rattle.shown.proofs.Numbers.{digits-spell-the-number}
