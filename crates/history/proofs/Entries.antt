@@ -1,13 +1,14 @@
 -- A run entry by entry: what each party was last asked before it, and what it finishes.
-use Prim.Native.Nat.{ℕ, zero, suc, _+_}
+use Prim.Native.Nat.{ℕ, zero, suc, _+_, _<_}
 use mathlib.Core.Path.{_≡_, sym, _∙_, ap}
 use mathlib.Core.List.{List, [], _∷_, _++_, append-assoc, append-nil}
 use native.Mathlib.Nat.{add-zero, add-suc, suc-add, zero-add}
 use lib.ListN.{length, getD, replicate}
+use native.Mathlib.Omega.{arith}
 use Rattle.call.specs.Call.{Call}
 use Rattle.placing.specs.Placing.{gathered}
-use Rattle.history.specs.Run.{State, lineOf, leaves, linesFrom, endFrom, begin, noCall}
-use Rattle.history.specs.Entries.{stateAt}
+use Rattle.history.specs.Run.{State, noLine, lineOf, leaves, linesFrom, endFrom, begin, noCall}
+use Rattle.history.specs.Entries.{stateAt, callIn}
 use Rattle.history.specs.Finished.{Asked, Finished, nothingYet, askedAfter, finishedAt, finishedFrom, finishedOf}
 
 module _ (first : State) (call : ℕ → Call) where
@@ -34,6 +35,19 @@ module _ (first : State) (call : ℕ → Call) where
       ∙ ends-at (suc n) cs (next .1)
       ∙ ap at (past-next n cs)
 
+  line-at : (n : ℕ) (rest : List Call) → Rest n rest → (i : ℕ) → i < length rest
+      → getD (linesFrom (at n) n rest) i noLine ≡ lineOf (at (n + i)) (n + i) (call (n + i))
+  unfolding linesFrom stateAt
+  line-at n [] same i within = absurd (omega arith)
+  line-at n (c ∷ cs) same zero within =
+      rw (add-zero n) (ap (lineOf (at n) n) (next-rest n c cs same .0))
+  line-at n (c ∷ cs) same (suc i) within =
+      let next = next-rest n c cs same in
+      let later : suc n + i ≡ n + suc i = omega arith in
+      ap (λ (x : Call). getD (linesFrom (leaves (at n) n x) (suc n) cs) i noLine) (next .0)
+      ∙ line-at (suc n) cs (next .1) i (omega arith)
+      ∙ ap (λ (m : ℕ). lineOf (at m) m (call m)) later
+
   module _ (unasked : List Asked) where
     unfoldable pub askedAt : (n : ℕ) → List Asked
     askedAt zero = unasked
@@ -53,10 +67,6 @@ module _ (first : State) (call : ℕ → Call) where
         ∙ finished-by (suc n) cs (next .1)
         ∙ ap (gathered addedAt) (past-next n cs)
 
--- the calls of a list by their numbers
-abbrev pub callIn : List Call → ℕ → Call
-callIn calls n = getD calls n noCall
-
 -- A run of a list of calls, entry by entry: its end, and the finished operations of its lines.
 module _ (strip : List ℕ) (parties : ℕ) (calls : List Call) where
   pub run-ends-at : endFrom (begin strip parties) 0 calls ≡ stateAt (begin strip parties) (callIn calls) (length calls)
@@ -71,3 +81,10 @@ module _ (strip : List ℕ) (parties : ℕ) (calls : List Call) where
   run-finishes =
       finished-by (begin strip parties) (callIn calls) (replicate parties nothingYet) 0 calls (λ i. ap (callIn calls) (sym (zero-add i)))
       ∙ ap (gathered (addedAt (begin strip parties) (callIn calls) (replicate parties nothingYet))) (zero-add (length calls))
+
+  pub the-line-of-an-entry : (n : ℕ) → n < length calls
+      → getD (linesFrom (begin strip parties) 0 calls) n noLine ≡ lineOf (stateAt (begin strip parties) (callIn calls) n) n (callIn calls n)
+  unfolding stateAt
+  the-line-of-an-entry n within =
+      line-at (begin strip parties) (callIn calls) 0 calls (λ i. ap (callIn calls) (sym (zero-add i))) n within
+      ∙ ap (λ (m : ℕ). lineOf (stateAt (begin strip parties) (callIn calls) m) m (callIn calls m)) (zero-add n)

@@ -18,13 +18,12 @@ use Rattle.strip.specs.Lay.{freshStrip}
 use Rattle.strip.specs.Measure.{measureOf}
 use Rattle.strip.specs.declared.Measured.the-variants.{Shape}
 use Rattle.strip.proofs.Laying.{fresh-length, fresh-words}
-use Rattle.strip.proofs.Shapes.{a-strip-stands-for-one-plain-strip}
 use Rattle.strip.proofs.Values.{fresh-stands-for}
 use Rattle.strip.proofs.MeasureShapes.{measure-gives-the-plain-strip}
 use Rattle.invariant.proofs.Begin.{idle-is-sane}
-use Rattle.history.specs.Run.{begin, linesFrom, endFrom, noCall}
+use Rattle.history.specs.Run.{State, begin, linesFrom, endFrom, noCall}
 use Rattle.history.specs.Finished.{finishedOf}
-use Rattle.history.specs.Explained.{Explained}
+use Rattle.history.specs.Explained.{ExplainedRun}
 use Rattle.history.specs.Accounts.{Closed}
 use Rattle.history.proofs.Explaining.{machine-explains}
 use Rattle.history.proofs.Keeping.{Keeps, the-strip-keeps-going}
@@ -36,8 +35,7 @@ module _ (strip : List ℕ) (p : Plain) (parties : ℕ) (calls : List Call) (str
   -- Every schedule is explained: the finished operations, played on p in the order of their effects, give every answer, and end at
   -- the plain strip that the words stand for at the end.
   pub every-schedule-is-explained :
-      (q : Plain) × StandsFor (endFrom (begin strip parties) 0 calls .strip) q
-      × Explained p (finishedOf parties calls (linesFrom (begin strip parties) 0 calls)) (length calls) q
+      ExplainedRun p parties calls (linesFrom (begin strip parties) 0 calls) (endFrom (begin strip parties) 0 calls .strip)
   every-schedule-is-explained =
       machine-explains Keeps the-strip-keeps-going strip p parties calls strip-fits stands fitting
 
@@ -65,25 +63,25 @@ module _ (max divide parties : ℕ) (calls : List Call) (some : 1 ≤ max) (smal
   fresh-fits =
       rw (fresh-length max divide inside, le-leb 3 (max + 2) (omega arith), le-leb (max + 2) 4096 (omega arith)) refl
 
+  abbrev fresh : State
+  fresh = begin (freshStrip max divide) parties
+
   pub every-schedule-on-a-fresh-strip-is-explained :
-      (q : Plain) × StandsFor (endFrom (begin (freshStrip max divide) parties) 0 calls .strip) q
-      × Explained (freshPlain max divide) (finishedOf parties calls (linesFrom (begin (freshStrip max divide) parties) 0 calls))
-      (length calls) q
+      ExplainedRun (freshPlain max divide) parties calls (linesFrom fresh 0 calls) (endFrom fresh 0 calls .strip)
   every-schedule-on-a-fresh-strip-is-explained =
       every-schedule-is-explained (freshStrip max divide) (freshPlain max divide) parties calls fresh-fits
       (fresh-stands-for max divide) fitting
 
-  pub no-counter-comes-round-on-a-fresh-strip : Every IsWord 0 (endFrom (begin (freshStrip max divide) parties) 0 calls .strip)
+  pub no-counter-comes-round-on-a-fresh-strip : Every IsWord 0 (endFrom fresh 0 calls .strip)
   no-counter-comes-round-on-a-fresh-strip =
       no-counter-comes-round-in-a-schedule (freshStrip max divide) (freshPlain max divide) parties calls fresh-fits
       (fresh-stands-for max divide) fitting (fresh-words max divide inside)
 
   -- The accounts are closed after any number of entries, for each order.
-  pub the-accounts-are-closed-after-every-entry : (n : ℕ) (q : Plain)
-      → StandsFor (endFrom (begin (freshStrip max divide) parties) 0 (take n calls) .strip) q
-      → (order : ℕ) → Closed order q (finishedOf parties (take n calls) (linesFrom (begin (freshStrip max divide) parties) 0 (take n calls)))
-  the-accounts-are-closed-after-every-entry n q stands order =
+  pub the-accounts-are-closed-after-every-entry : (n : ℕ) → (q : Plain) × StandsFor (endFrom fresh 0 (take n calls) .strip) q
+      × ((order : ℕ) → Closed order q (finishedOf parties (take n calls) (linesFrom fresh 0 (take n calls))))
+  the-accounts-are-closed-after-every-entry n =
       let upto =
       every-schedule-is-explained (freshStrip max divide) (freshPlain max divide) parties (take n calls) fresh-fits (fresh-stands-for max divide)
       (every-take Fitting noCall n calls fitting) in
-      rw (a-strip-stands-for-one-plain-strip _ q (upto .0) stands (upto .1)) (from-fresh-each-account-is-closed max divide (upto .2) order)
+      (upto .0, upto .1, from-fresh-each-account-is-closed max divide (upto .2))

@@ -18,12 +18,12 @@ use Rattle.strip.specs.Shape.{StandsFor}
 use Rattle.placing.specs.Placing.{gathered, Adds}
 use Rattle.placing.proofs.Explains.{all-that-was-added-plays}
 use Rattle.history.specs.Run.{State, begin, leaves, linesFrom, endFrom, noCall}
-use Rattle.history.specs.Entries.{stateAt}
-use Rattle.history.specs.Finished.{Asked, Finished, nothingYet, finishedOf}
-use Rattle.history.specs.Explained.{Agrees, Explained}
+use Rattle.history.specs.Entries.{stateAt, callIn}
+use Rattle.history.specs.Finished.{Asked, Finished, nothingYet}
+use Rattle.history.specs.Explained.{Agrees, Explained, ExplainedRun}
 use Rattle.history.proofs.Booked.{Booked, booked-first, booked-next, LastLook, last-look}
 use Rattle.history.proofs.Claimed.{Claimed, claimed-next}
-use Rattle.history.proofs.Entries.{callIn, askedAt, addedAt, run-ends-at, run-finishes}
+use Rattle.history.proofs.Entries.{askedAt, addedAt, run-ends-at, run-finishes}
 use Rattle.history.specs.Machine.{Says, thensAfter, Machine}
 use Rattle.history.proofs.Tracing.{look-is-quiet, adds}
 
@@ -134,8 +134,7 @@ every-fits calls fitting n = go (ltb n (length calls)) refl
 pub machine-explains : (Inv : State → Plain → (ℕ → Plain) → Type 0) → Machine Inv
     → (strip : List ℕ) (p : Plain) (parties : ℕ) (calls : List Call) → stripFits (length strip) ≡ true → StandsFor strip p
     → Every Fitting noCall calls
-    → (q : Plain) × StandsFor (endFrom (begin strip parties) 0 calls .strip) q
-    × Explained p (finishedOf parties calls (linesFrom (begin strip parties) 0 calls)) (length calls) q
+    → ExplainedRun p parties calls (linesFrom (begin strip parties) 0 calls) (endFrom (begin strip parties) 0 calls .strip)
 machine-explains Inv machine strip p parties calls strip-fits stands fitting =
     let fits = every-fits calls fitting in
     let n = length calls in (

@@ -4,7 +4,7 @@ use mathlib.Core.Path.{_≡_, refl, sym, _∙_, ap, subst}
 use mathlib.Core.Bool.{Bool, true, false}
 use mathlib.Core.Logic.{inl, inr}
 use mathlib.Core.List.{List}
-use lib.ListN.{getD}
+use lib.ListN.{length, getD}
 use lib.Dec.{eqb}
 use borrow.Author.Tests.{eqb-true, eqb-false}
 use native.Mathlib.Omega.{arith}
@@ -14,12 +14,13 @@ use Rattle.record.specs.Record.{idle}
 use Rattle.party.specs.Answer.{isRefusal}
 use Rattle.record.specs.declared.Record.{Record}
 use Rattle.call.specs.Call.{Call, partyOf}
-use Rattle.history.specs.Run.{State, begin, leaves, lineOf, looked, numberIn, looksNow}
-use Rattle.history.specs.Entries.{stateAt, recordAt, effectAt, LookedAt}
-use Rattle.history.proofs.Parties.{look-after}
+use Rattle.history.specs.Run.{State, Line, noLine, begin, isStep, leaves, lineOf, linesFrom, looked, numberIn, looksNow}
+use Rattle.history.specs.Entries.{stateAt, callIn, recordBefore, LookedAt}
+use Rattle.history.proofs.Parties.{look-is-a-step, look-after}
 use Rattle.history.proofs.Since.{Since, Early, since, refused-unlooked}
 use Rattle.history.proofs.Results.{a-result-ends}
 use Rattle.history.proofs.Explaining.{booked-at}
+use Rattle.history.proofs.Entries.{the-line-of-an-entry}
 
 second : (r : Record) → Early r → 2 ≤ r .stage
 second r (inl e) = omega arith
@@ -39,21 +40,23 @@ module _ (strip : List ℕ) (parties : ℕ) (call : ℕ → Call) where
   abbrev at : ℕ → State
   at n = stateAt first call n
 
-  looked-at : (n i : ℕ) → Early (recordAt first call n i) → LookedAt first call n i (getD (at n .looks) i 0)
+  looked-at : (n i : ℕ) → Early (recordBefore first call n i) → LookedAt first call n i (getD (at n .looks) i 0)
   unfolding stateAt
-  looked-at zero i early = absurd (let seen = booked-at strip parties call 0 .looked-so i (second (recordAt first call 0 i) early) in omega arith)
+  looked-at zero i early = absurd (let seen = booked-at strip parties call 0 .looked-so i (second (recordBefore first call 0 i) early) in omega arith)
   looked-at (suc n) i early = go (since (at n) n (call n) i early) (looked-at n i)
     where
       look-is : getD (leaves (at n) n (call n) .looks) i 0 ≡ pick (looksNow (at n) (call n) i) n (getD (at n .looks) i 0)
       look-is = look-after (at n) n (booked-at strip parties call n .looks-size) (call n) i
 
-      go : Since (at n) (call n) i (recordAt first call n i) (getD (leaves (at n) n (call n) .table) i idle)
-          → (Early (recordAt first call n i) → LookedAt first call n i (getD (at n .looks) i 0)) → LookedAt first call (suc n) i (getD (leaves (at n) n (call n) .looks) i 0)
+      go : Since (at n) (call n) i (recordBefore first call n i) (getD (leaves (at n) n (call n) .table) i idle)
+          → (Early (recordBefore first call n i) → LookedAt first call n i (getD (at n .looks) i 0)) → LookedAt first call (suc n) i (getD (leaves (at n) n (call n) .looks) i 0)
       go (Since.now looks from) before =
           let each = both (looked (at n) (call n) (numberIn (at n) (call n))) (eqb i (partyOf (call n))) looks in
           rw (look-is, looks)
           (record {
+            before = omega arith;
             own = sym (eqb-true i (partyOf (call n)) (each .1));
+            steps = ap isStep (look-is-a-step (at n) (call n) (each .0) .1);
             from-stage = from;
             refused-since = λ m after early-m. absurd (omega arith);
           })
@@ -61,27 +64,45 @@ module _ (strip : List ℕ) (parties : ℕ) (call : ℕ → Call) where
           let was = before (subst Early same early) in
           rw (look-is, refused-unlooked (at n) (call n) i refused)
           (record {
+            before = omega (arith, was .before);
             own = was .own;
+            steps = was .steps;
             from-stage = ap (λ (r : Record). r .stage) same ∙ was .from-stage;
             refused-since =
                 one-longer (λ (m : ℕ). partyOf (call m) ≡ i → isRefusal (numberIn (at m) (call m)) ≡ true) (getD (at n .looks) i 0) n
                 (was .refused-since) refused;
           })
 
+-- The line of an entry tells where: e is the party's look, at the stage that it was at then.
+module _ (strip : List ℕ) (parties : ℕ) (calls : List Call) (n : ℕ) (within : n < length calls) where
+  abbrev start : State
+  start = begin strip parties
+
+  abbrev line : Line
+  line = getD (linesFrom start 0 calls) n noLine
+
+  abbrev party : ℕ
+  party = partyOf (callIn calls n)
+
+  is : line ≡ lineOf (stateAt start (callIn calls) n) n (callIn calls n)
+  is = the-line-of-an-entry strip parties calls n within
+
   -- FULL: at that attempt's stage 1 read.
-  pub full-took-effect-at-the-stage-1-read : (n : ℕ) → numberIn (at n) (call n) ≡ 18
-      → LookedAt first call n (partyOf (call n)) (effectAt first call n) × (recordAt first call (effectAt first call n) (partyOf (call n)) .stage ≡ 1)
+  pub full-took-effect-at-the-stage-1-read : line .number ≡ 18
+      → LookedAt start (callIn calls) n party (line .effect) × (recordBefore start (callIn calls) (line .effect) party .stage ≡ 1)
   unfolding lineOf
-  full-took-effect-at-the-stage-1-read n full =
-      let two = a-result-ends (at n) n (call n) (rw full refl) .full-at full in
-      let looked-so = looked-at n (partyOf (call n)) (inl two) in
-      rw full (looked-so, omega (arith, looked-so .from-stage))
+  full-took-effect-at-the-stage-1-read number =
+      let full = ap (λ (l : Line). l .number) (sym is) ∙ number in
+      let two = a-result-ends (stateAt start (callIn calls) n) n (callIn calls n) (rw full refl) .full-at full in
+      let looked-so = looked-at strip parties (callIn calls) n party (inl two) in
+      rw (is, full) (looked-so, omega (arith, looked-so .from-stage))
 
   -- EMPTY: at that attempt's stage 2 read.
-  pub empty-took-effect-at-the-stage-2-read : (n : ℕ) → numberIn (at n) (call n) ≡ 19
-      → LookedAt first call n (partyOf (call n)) (effectAt first call n) × (recordAt first call (effectAt first call n) (partyOf (call n)) .stage ≡ 2)
+  pub empty-took-effect-at-the-stage-2-read : line .number ≡ 19
+      → LookedAt start (callIn calls) n party (line .effect) × (recordBefore start (callIn calls) (line .effect) party .stage ≡ 2)
   unfolding lineOf
-  empty-took-effect-at-the-stage-2-read n empty =
-      let three = a-result-ends (at n) n (call n) (rw empty refl) .empty-at empty in
-      let looked-so = looked-at n (partyOf (call n)) (inr three) in
-      rw empty (looked-so, omega (arith, looked-so .from-stage))
+  empty-took-effect-at-the-stage-2-read number =
+      let empty = ap (λ (l : Line). l .number) (sym is) ∙ number in
+      let three = a-result-ends (stateAt start (callIn calls) n) n (callIn calls n) (rw empty refl) .empty-at empty in
+      let looked-so = looked-at strip parties (callIn calls) n party (inr three) in
+      rw (is, empty) (looked-so, omega (arith, looked-so .from-stage))

@@ -3,7 +3,7 @@ use Prim.Native.Nat.{ℕ, suc}
 use mathlib.Core.Path.{_≡_, refl, sym, _∙_, ap₂, subst}
 use mathlib.Core.Bool.{Bool, true, false, _||_, true≢false}
 use mathlib.Core.Logic.{inl, inr}
-use mathlib.Core.List.{List, [], _∷_, map}
+use mathlib.Core.List.{List, [], _∷_}
 use lib.ListN.{length, getD, set, replicate, length-set, length-replicate}
 use lib.Seq.{getD-set-same, getD-set-other}
 use lib.Dec.{eqb}
@@ -14,7 +14,7 @@ use Rattle.record.specs.Record.{idle}
 use Rattle.party.specs.Answer.{isRefusal}
 use Rattle.call.specs.Call.{Call, partyOf}
 use Rattle.call.proofs.Calls.{table-stays-as-long}
-use Rattle.history.specs.Run.{State, Line, begin, looked, leaves, lineOf, linesFrom, numberIn, effectOf, looksNow}
+use Rattle.history.specs.Run.{State, begin, looked, leaves, lineOf, linesFrom, numberIn, effectBy, looksNow, lineNumbers, lineEffects}
 use Rattle.history.specs.Told.{lastAfter, effectsFrom, effectsOf}
 use Rattle.history.proofs.Parties.{look-is-a-step, looked-known, look-after, looks-stay-as-long}
 use Rattle.history.proofs.Results.{a-result-ends}
@@ -34,7 +34,7 @@ module _ (s : State) (entry : ℕ) (call : Call) (last : List ℕ) (tells : Look
   after = lastAfter last entry call number
 
   -- FULL comes from stage 2 and EMPTY from stage 3, so the party has looked
-  effect-is-told : effectOf s entry call number ≡ pick (eqb number 18 || eqb number 19) (getD last (partyOf call) 0) entry
+  effect-is-told : effectBy (s .looks) entry call number ≡ effectBy last entry call number
   effect-is-told = go (eqb number 18) (eqb number 19) refl refl
     where
       at-look : Early (getD (s .table) (partyOf call) idle) → getD (s .looks) (partyOf call) 0 ≡ getD last (partyOf call) 0
@@ -84,8 +84,8 @@ module _ (s : State) (entry : ℕ) (call : Call) (last : List ℕ) (tells : Look
       }
 
 told-from : (calls : List Call) (s : State) (entry : ℕ) (last : List ℕ) → LooksTold s last
-    → effectsFrom last entry calls (map (λ (line : Line). line .number) (linesFrom s entry calls))
-    ≡ map (λ (line : Line). line .effect) (linesFrom s entry calls)
+    → effectsFrom last entry calls (lineNumbers (linesFrom s entry calls))
+    ≡ lineEffects (linesFrom s entry calls)
 unfolding effectsFrom linesFrom lineOf
 told-from [] s entry last tells = refl
 told-from (call ∷ calls) s entry last tells =
@@ -94,8 +94,8 @@ told-from (call ∷ calls) s entry last tells =
 
 -- What a run's lines say of effects is what the calls and the numbers tell.
 pub effects-are-told : (strip : List ℕ) (parties : ℕ) (calls : List Call)
-    → effectsOf parties calls (map (λ (line : Line). line .number) (linesFrom (begin strip parties) 0 calls))
-    ≡ map (λ (line : Line). line .effect) (linesFrom (begin strip parties) 0 calls)
+    → effectsOf parties calls (lineNumbers (linesFrom (begin strip parties) 0 calls))
+    ≡ lineEffects (linesFrom (begin strip parties) 0 calls)
 effects-are-told strip parties calls =
     told-from calls (begin strip parties) 0 (replicate parties 0)
     (record {

@@ -2,12 +2,17 @@
 use Prim.Native.Nat.{ℕ, zero, suc, _<_}
 use mathlib.Core.Path.{_≡_}
 use mathlib.Core.Bool.{true}
+use mathlib.Core.List.{List}
 use lib.ListN.{getD}
 use Rattle.record.specs.Record.{idle}
 use Rattle.party.specs.Answer.{isRefusal}
 use Rattle.record.specs.declared.Record.{Record}
 use Rattle.call.specs.Call.{Call, partyOf}
-use Rattle.history.specs.Run.{State, lineOf, leaves, numberIn}
+use Rattle.history.specs.Run.{State, noCall, isStep, leaves, numberIn}
+
+-- the calls of a list by their numbers
+abbrev pub callIn : List Call → ℕ → Call
+callIn calls n = getD calls n noCall
 
 module _ (first : State) (call : ℕ → Call) where
   unfoldable pub stateAt : (n : ℕ) → State
@@ -15,16 +20,14 @@ module _ (first : State) (call : ℕ → Call) where
   stateAt (suc n) = leaves (stateAt n) n (call n)
 
   -- a party's record before entry n
-  abbrev pub recordAt : (n party : ℕ) → Record
-  recordAt n party = getD (stateAt n .table) party idle
+  abbrev pub recordBefore : (n party : ℕ) → Record
+  recordBefore n party = getD (stateAt n .table) party idle
 
-  -- where the line of entry n says that its operation took effect
-  abbrev pub effectAt : (n : ℕ) → ℕ
-  effectAt n = lineOf (stateAt n) n (call n) .effect
-
-  -- e is the entry of a look of a party before entry n: its own step, from the stage before the one where it is now; and what else it
-  -- was called for since was refused
+  -- e is the entry of a look of a party before entry n: a step of its own, from the stage before the one where it is now; and what else
+  -- it was called for since was refused
   pub record LookedAt (n party e : ℕ) : Type 0 where
+    pub before : e < n
     pub own : partyOf (call e) ≡ party
-    pub from-stage : recordAt n party .stage ≡ suc (recordAt e party .stage)
+    pub steps : isStep (call e) ≡ true
+    pub from-stage : recordBefore n party .stage ≡ suc (recordBefore e party .stage)
     pub refused-since : (m : ℕ) → e < m → m < n → partyOf (call m) ≡ party → isRefusal (numberIn (stateAt m) (call m)) ≡ true

@@ -6,7 +6,10 @@ use lib.ListN.{length, getD}
 use Rattle.plain.specs.Plain.{Plain}
 use Rattle.plain.specs.Play.{Yields}
 use Rattle.placing.specs.Placing.{inOrder, Plays}
-use Rattle.history.specs.Finished.{Finished}
+use Rattle.strip.specs.Shape.{StandsFor}
+use Rattle.call.specs.Call.{Call}
+use Rattle.history.specs.Run.{Line}
+use Rattle.history.specs.Finished.{Finished, finishedOf}
 
 -- f, played on the plain strip p, gives f's number and carried order and leaves q
 abbrev pub Agrees : Finished → Plain → Plain → Type 0
@@ -31,3 +34,9 @@ pub record Explained (first : Plain) (finished : List Finished) (entries : ℕ) 
   pub between : (i : ℕ) → i < length finished → Between (getD finished i none)
   pub apart : (i j : ℕ) → i < j → j < length finished → getD finished i none .effect ≡ getD finished j none .effect → ⊥
   pub played : Plays Agrees first (inOrder (λ (f : Finished). f .effect) entries finished) last
+
+-- A run from the plain strip p on is explained: the finished operations, read from its calls and their lines, are, and the strip that
+-- is left stands for the plain strip at the end.
+abbrev pub ExplainedRun : (p : Plain) (parties : ℕ) → List Call → List Line → (left : List ℕ) → Type 0
+ExplainedRun p parties calls lines left =
+    (q : Plain) × StandsFor left q × Explained p (finishedOf parties calls lines) (length calls) q

@@ -1,7 +1,7 @@
 -- A run: a list of calls, the entries of a schedule, one after the other, each with its line.
 use Prim.Native.Nat.{ℕ, suc}
 use mathlib.Core.Bool.{Bool, true, false, _&&_, _||_}
-use mathlib.Core.List.{List, [], _∷_}
+use mathlib.Core.List.{List, [], _∷_, map}
 use lib.ListN.{getD, set, replicate}
 use lib.Dec.{eqb}
 use Rattle.logic.specs.Pick.{pick}
@@ -30,6 +30,16 @@ pub record Line : Type 0 where
   pub carried : ℕ
   pub effect : ℕ
 
+-- the columns of lines
+abbrev pub lineNumbers : List Line → List ℕ
+lineNumbers lines = map (λ (line : Line). line .number) lines
+
+abbrev pub lineOrders : List Line → List ℕ
+lineOrders lines = map (λ (line : Line). line .carried) lines
+
+abbrev pub lineEffects : List Line → List ℕ
+lineEffects lines = map (λ (line : Line). line .effect) lines
+
 -- stands for what is past the end of a list of lines
 abbrev pub noLine : Line
 noLine = record { number = 0; carried = 0; effect = 0 }
@@ -48,9 +58,9 @@ looked s call number =
     isStep call && goesOn number
     && (eqb (recordOf (s .table) call .stage) 1 || eqb (recordOf (s .table) call .stage) 2)
 
--- PUSHED and POPPED took effect at the answering entry, FULL and EMPTY at the party's last look
-abbrev pub effectOf : State → (entry : ℕ) → Call → (number : ℕ) → ℕ
-effectOf s entry call number = pick (eqb number 18 || eqb number 19) (getD (s .looks) (partyOf call) 0) entry
+-- PUSHED and POPPED took effect at the answering entry, FULL and EMPTY at the entry that is noted for the party
+abbrev pub effectBy : (noted : List ℕ) (entry : ℕ) → Call → (number : ℕ) → ℕ
+effectBy noted entry call number = pick (eqb number 18 || eqb number 19) (getD noted (partyOf call) 0) entry
 
 abbrev pub after : State → Call → Left
 after s call = callOf (s .strip) (s .table) call
@@ -68,7 +78,7 @@ lineOf s entry call =
     record {
       number = numberIn s call;
       carried = carriedOf (after s call .answer);
-      effect = effectOf s entry call (numberIn s call);
+      effect = effectBy (s .looks) entry call (numberIn s call);
     }
 
 unfoldable pub leaves : State → (entry : ℕ) → Call → State
