@@ -5,10 +5,10 @@ use mathlib.Core.List.{List, [], _∷_}
 use lib.Seq.{sets}
 use native.Mathlib.Omega.{arith}
 use Rattle.word.specs.Word.{IsWord}
-use Rattle.little.specs.Bytes.{numberAt, bytesOf}
+use Rattle.little.specs.Bytes.{AreBytes, numberAt, bytesOf}
 use Rattle.format.specs.Spelling.{wordsFrom, wordBytes}
 use Rattle.little.proofs.Runs.{run-append}
-use Rattle.little.proofs.Digits.{length-bytes, digits-are-bytes, bytes-stay, same-number, laid-fitting-is-read, read-is-laid}
+use Rattle.little.proofs.Digits.{length-bytes, digits-are-bytes, bytes-stay, same-number, laid-fitting-is-read, read-is-laid, bytes-behind}
 use Rattle.format.proofs.Parts.{Part, partsFrom, withParts}
 
 abbrev pub wordPart : Part ℕ
@@ -37,3 +37,8 @@ words-laid-are-parts (w ∷ words) l at =
     run-append (bytesOf 8 w) (wordBytes words) l at
     ∙ ap (λ (next : ℕ). sets (sets l at (bytesOf 8 w)) (at + next) (wordBytes words)) (length-bytes 8 w)
     ∙ words-laid-are-parts words (sets l at (bytesOf 8 w)) (at + 8)
+
+pub words-are-bytes : (words : List ℕ) → AreBytes (wordBytes words)
+unfolding wordBytes
+words-are-bytes [] = λ i. omega arith
+words-are-bytes (w ∷ words) = bytes-behind (bytesOf 8 w) (wordBytes words) (digits-are-bytes 8 w) (words-are-bytes words)

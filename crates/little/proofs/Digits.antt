@@ -35,6 +35,25 @@ pub bytes-stay : (vs l : List ℕ) (at : ℕ) → AreBytes l → AreBytes vs →
 bytes-stay [] l at are new = are
 bytes-stay (v ∷ vs) l at are new = bytes-stay vs (set l at v) (suc at) (byte-stays l at v are (new 0)) (λ i. new (suc i))
 
+pub byte-before : (v : ℕ) (l : List ℕ) → v < 256 → AreBytes l → AreBytes (v ∷ l)
+byte-before v l byte rest zero = byte
+byte-before v l byte rest (suc i) = rest i
+
+pub bytes-behind : (l m : List ℕ) → AreBytes l → AreBytes m → AreBytes (l ++ m)
+bytes-behind [] m first second i = second i
+bytes-behind (v ∷ l) m first second zero = first 0
+bytes-behind (v ∷ l) m first second (suc i) = bytes-behind l m (λ j. first (suc j)) second i
+
+-- zeros spell 0
+pub zeros-spell-0 : (width : ℕ) (l : List ℕ) (at : ℕ) → ((i : ℕ) → getD l (at + i) 0 ≡ 0) → numberAt width l at ≡ 0
+unfolding numberAt
+zeros-spell-0 zero l at zeros = refl
+zeros-spell-0 (suc width) l at zeros =
+    let here = rw (add-zero at) at (zeros 0) in
+    let later : (i : ℕ) → getD l (at + 1 + i) 0 ≡ 0 =
+    λ i. let moved : at + 1 + i ≡ at + suc i = omega arith in rw moved (zeros (suc i)) in
+    omega (arith, here, zeros-spell-0 width l (at + 1) later)
+
 -- a number is the bytes it is read from, and no others
 pub same-number : (width : ℕ) (l m : List ℕ) (at : ℕ) → Agree l m at width → numberAt width l at ≡ numberAt width m at
 unfolding numberAt

@@ -1,13 +1,15 @@
 -- An image at the beginning of a run: its records of 32 zero bytes are idle, and their bytes that must be zero are.
 use Prim.Native.Nat.{ℕ, zero, suc, _+_, _*_}
-use mathlib.Core.Path.{_≡_, refl, _∙_, ap, ap₂}
+use mathlib.Core.Path.{_≡_, refl, sym, _∙_, ap, ap₂}
 use mathlib.Core.List.{List, _∷_}
 use lib.ListN.{getD, replicate}
+use lib.Seq.{getD-drop}
+use Rattle.logic.proofs.Lists.{all-the-same}
+use Rattle.little.proofs.Digits.{zeros-spell-0}
 use native.Mathlib.Omega.{arith}
 use Rattle.record.specs.Record.{idle}
 use Rattle.record.specs.declared.Record.{Record}
 use Rattle.plain.specs.Plain.{Plain}
-use Rattle.little.specs.Bytes.{numberAt}
 use Rattle.header.specs.Header.{versionAt, partiesAt}
 use Rattle.format.specs.Format.{recordsIn, partyPlace}
 use Rattle.format.specs.Spelling.{recordAt, recordsFrom, tableOf}
@@ -21,21 +23,14 @@ ZerosFrom l at = (i : ℕ) → getD l (at + i) 0 ≡ 0
 later : (l : List ℕ) (at more : ℕ) → ZerosFrom l at → ZerosFrom l (at + more)
 later l at more zeros i = let moved : at + more + i ≡ at + (more + i) = omega arith in rw moved (zeros (more + i))
 
-zero-number : (width : ℕ) (l : List ℕ) (at : ℕ) → ZerosFrom l at → numberAt width l at ≡ 0
-unfolding numberAt
-zero-number zero l at zeros = refl
-zero-number (suc width) l at zeros =
-    let here : getD l at 0 ≡ 0 = let same : at + 0 ≡ at = omega arith in rw same at (zeros 0) in
-    omega (arith, here, zero-number width l (at + 1) (later l at 1 zeros))
-
 zero-record : (version : ℕ) (l : List ℕ) (at : ℕ) → ZerosFrom l at → recordAt version l at ≡ idle
 unfolding recordAt
 zero-record version l at zeros =
     rw (
-      zero-number 2 l (at + 2) (later l at 2 zeros),
-      zero-number 4 l (at + 4) (later l at 4 zeros),
-      zero-number 8 l (at + 8) (later l at 8 zeros),
-      zero-number 8 l (at + 16) (later l at 16 zeros),
+      zeros-spell-0 2 l (at + 2) (later l at 2 zeros),
+      zeros-spell-0 4 l (at + 4) (later l at 4 zeros),
+      zeros-spell-0 8 l (at + 8) (later l at 8 zeros),
+      zeros-spell-0 8 l (at + 16) (later l at 16 zeros),
       zeros 1,
     )
     (let same : at + 0 ≡ at = omega arith in rw (rw same at (zeros 0)) refl)
@@ -49,18 +44,21 @@ zero-records version (suc count) l at zeros =
 
 -- An image at the beginning is intact, and spells idle parties.
 module _ (image : List ℕ) (p : Plain) (parties : ℕ) (begins : Begins image p parties) where
+  zeros : ZerosFrom image (recordsIn image)
+  zeros i = sym (getD-drop (recordsIn image) image i 0) ∙ rw (begins .idle) (all-the-same {A = ℕ} (32 * parties) i 0)
+
   pub idle-parties-are-spelled : tableOf image ≡ replicate parties idle
   idle-parties-are-spelled =
-      zero-records (versionAt image) (partiesAt image) image (recordsIn image) (begins .idle)
+      zero-records (versionAt image) (partiesAt image) image (recordsIn image) zeros
       ∙ ap (λ (n : ℕ). replicate n idle) (begins .for-parties)
 
   spare-is-zero : (party : ℕ) → ZerosFrom image (partyPlace image party + 24)
-  spare-is-zero party = later image (partyPlace image party) 24 (later image (recordsIn image) (32 * party) (begins .idle))
+  spare-is-zero party = later image (partyPlace image party) 24 (later image (recordsIn image) (32 * party) zeros)
 
   pub it-is-intact : Intact image
   it-is-intact =
       record {
         bytes = begins .bytes;
         taken = begins .taken;
-        spare = λ party known. rw (zero-number 8 image (partyPlace image party + 24) (spare-is-zero party)) refl;
+        spare = λ party known. rw (zeros-spell-0 8 image (partyPlace image party + 24) (spare-is-zero party)) refl;
       }

@@ -11,50 +11,59 @@ use Rattle.party.specs.declared.Answer.{Answer}
 use Rattle.call.specs.Call.{Call, Fitting}
 use Rattle.plain.specs.Plain.{Plain, freshPlain}
 use Rattle.strip.specs.Shape.{StandsFor}
-use Rattle.strip.proofs.Shapes.{a-strip-stands-for-one-plain-strip}
 use Rattle.format.specs.Spelling.{stripOf}
 use Rattle.image.specs.Calls.{imageOf, layOf}
-use Rattle.history.specs.Run.{Line, linesFrom, noCall}
+use Rattle.history.specs.Run.{Line, linesFrom, noCall, lineNumbers, lineOrders, lineEffects}
 use Rattle.history.specs.Finished.{finishedOf}
 use Rattle.history.specs.Told.{effectsOf}
+use Rattle.history.specs.Explained.{ExplainedRun}
 use Rattle.history.specs.Accounts.{Closed}
 use Rattle.history.proofs.Told.{effects-are-told}
 use Rattle.history.proofs.Accounts.{from-fresh-each-account-is-closed}
-use Rattle.pds.specs.Packed.{pdsNumber, pdsOrder, PackedPromise}
+use Rattle.pds.specs.Packed.{packedOf, pdsNumber, pdsOrder, Tells, PackedPromise}
 use Rattle.pds.proofs.Unpacked.{a-packed-answer-tells-its-number-and-order}
+use Rattle.on_image.specs.Intact.{Intact}
 use Rattle.on_image.specs.Run.{Begins, answersOn, imageAfter, firstOn, RunsAs}
-use Rattle.on_image.specs.Packed.{InTurn, linesOf, linesTold, ExplainedInTurn}
+use Rattle.on_image.specs.Packed.{InTurn, linesOf, linesTold}
 use Rattle.on_image.proofs.Laid.{what-pds-lay-leaves-begins}
 use Rattle.on_image.proofs.EveryRun.{every-run-on-an-image-is-explained}
 
--- calls in turn are a run on the image
-in-turn-ends : (calls : List Call) (image answers last : List ℕ) → InTurn image calls answers last → last ≡ imageAfter image calls
-unfolding imageAfter
-in-turn-ends [] image [] last same = same
-in-turn-ends [] image (answer ∷ answers) last none = absurd none
-in-turn-ends (call ∷ calls) image [] last none = absurd none
-in-turn-ends (call ∷ calls) image (answer ∷ answers) last turn =
-    in-turn-ends calls (turn .0) answers last (turn .2) ∙ ap (λ (next : List ℕ). imageAfter next calls) (turn .1 .bytes)
+-- Calls in turn are a run on the image, its answers packed;
+pub calls-in-turn-are-a-run : (calls : List Call) (image answers last : List ℕ) → InTurn image calls answers last
+    → (answers ≡ map packedOf (answersOn image calls)) × (last ≡ imageAfter image calls)
+unfolding answersOn imageAfter
+calls-in-turn-are-a-run [] image [] last same = (refl, same)
+calls-in-turn-are-a-run [] image (answer ∷ answers) last none = absurd none
+calls-in-turn-are-a-run (call ∷ calls) image [] last none = absurd none
+calls-in-turn-are-a-run (call ∷ calls) image (answer ∷ answers) last (next, kept, turn) =
+    let rest = calls-in-turn-are-a-run calls (imageOf image call .image) answers last (rw (kept .bytes) at turn) in
+    (ap₂ (λ (n : ℕ) (ns : List ℕ). n ∷ ns) (kept .packed) (rest .0), rest .1)
 
--- and what is read in each packed answer is read in its answer there
-in-turn-reads : (packed : ℕ → ℕ) (plain : Answer → ℕ)
-    → ((image : List ℕ) (call : Call) (answer : ℕ) (left : List ℕ) → PackedPromise (imageOf image call) answer left
-    → packed answer ≡ plain (imageOf image call .answer))
-    → (calls : List Call) (image answers last : List ℕ) → InTurn image calls answers last → map packed answers ≡ map plain (answersOn image calls)
+-- and a run on the image is calls in turn.
+pub a-run-is-calls-in-turn : (calls : List Call) (image : List ℕ)
+    → InTurn image calls (map packedOf (answersOn image calls)) (imageAfter image calls)
+unfolding answersOn imageAfter
+a-run-is-calls-in-turn [] image = refl
+a-run-is-calls-in-turn (call ∷ calls) image =
+    (imageOf image call .image, record { packed = refl; bytes = refl }, a-run-is-calls-in-turn calls (imageOf image call .image))
+
+-- what is read in each packed answer of a run is read in the answer
+reads-back : (read : ℕ → ℕ) (of : Answer → ℕ)
+    → ((image : List ℕ) (call : Call) → read (packedOf (imageOf image call .answer)) ≡ of (imageOf image call .answer))
+    → (calls : List Call) (image : List ℕ) → map read (map packedOf (answersOn image calls)) ≡ map of (answersOn image calls)
 unfolding answersOn
-in-turn-reads packed plain reads [] image [] last turn = refl
-in-turn-reads packed plain reads [] image (answer ∷ answers) last none = absurd none
-in-turn-reads packed plain reads (call ∷ calls) image [] last none = absurd none
-in-turn-reads packed plain reads (call ∷ calls) image (answer ∷ answers) last turn =
-    ap₂ (λ (n : ℕ) (ns : List ℕ). n ∷ ns) (reads image call answer (turn .0) (turn .1))
-    (in-turn-reads packed plain reads calls (turn .0) answers last (turn .2)
-    ∙ ap (λ (next : List ℕ). map plain (answersOn next calls)) (turn .1 .bytes))
+reads-back read of reads [] image = refl
+reads-back read of reads (call ∷ calls) image =
+    ap₂ (λ (n : ℕ) (ns : List ℕ). n ∷ ns) (reads image call) (reads-back read of reads calls (imageOf image call .image))
+
+told : (image : List ℕ) (call : Call) → Tells (imageOf image call) (packedOf (imageOf image call .answer))
+told image call =
+    a-packed-answer-tells-its-number-and-order image call (packedOf (imageOf image call .answer)) (imageOf image call .image)
+    (record { packed = refl; bytes = refl })
 
 -- lines are their three columns
 lines-are-columns : (lines : List Line) (answers : List ℕ)
-    → map pdsNumber answers ≡ map (λ (line : Line). line .number) lines
-    → map pdsOrder answers ≡ map (λ (line : Line). line .carried) lines
-    → linesOf answers (map (λ (line : Line). line .effect) lines) ≡ lines
+    → map pdsNumber answers ≡ lineNumbers lines → map pdsOrder answers ≡ lineOrders lines → linesOf answers (lineEffects lines) ≡ lines
 unfolding linesOf
 lines-are-columns [] [] numbers orders = refl
 lines-are-columns [] (answer ∷ answers) numbers orders = absurd (omega (arith, ap (length {A = ℕ}) numbers))
@@ -65,47 +74,46 @@ lines-are-columns (line ∷ lines) (answer ∷ answers) numbers orders =
     ap₂ (λ (l : Line) (ls : List Line). l ∷ ls) (ap₂ with (ap first numbers) (ap first orders))
     (lines-are-columns lines answers (ap (drop 1) numbers) (ap (drop 1) orders))
 
--- Demand 3 of the C calls, from any image at the beginning of a run.
+-- Demand 3 of the C calls, from any image at the beginning of a run. That calls fit says that an order is a uint32_t.
 module _ (image : List ℕ) (p : Plain) (parties : ℕ) (begins : Begins image p parties) (calls : List Call)
     (fitting : Every Fitting noCall calls) (answers last : List ℕ) (turn : InTurn image calls answers last) where
   abbrev lines : List Line
   lines = linesFrom (firstOn image parties) 0 calls
 
-  run : RunsAs (firstOn image parties) 0 image calls
-  run = every-run-on-an-image-is-explained image p parties begins calls fitting .0
+  explained : RunsAs (firstOn image parties) 0 image calls × ExplainedRun p parties calls lines (stripOf (imageAfter image calls))
+  explained = every-run-on-an-image-is-explained image p parties begins calls fitting
 
-  numbers : map pdsNumber answers ≡ map (λ (line : Line). line .number) lines
-  numbers =
-      in-turn-reads pdsNumber numberOf (λ i c a l kept. a-packed-answer-tells-its-number-and-order i c a l kept .0) calls image answers last turn
-      ∙ run .numbers
+  run : (answers ≡ map packedOf (answersOn image calls)) × (last ≡ imageAfter image calls)
+  run = calls-in-turn-are-a-run calls image answers last turn
 
-  orders : map pdsOrder answers ≡ map (λ (line : Line). line .carried) lines
-  orders =
-      in-turn-reads pdsOrder carriedOf (λ i c a l kept. a-packed-answer-tells-its-number-and-order i c a l kept .1) calls image answers last turn
-      ∙ run .carried
+  numbers : map pdsNumber answers ≡ lineNumbers lines
+  numbers = ap (map pdsNumber) (run .0) ∙ reads-back pdsNumber numberOf (λ i c. told i c .0) calls image ∙ explained .0 .numbers
+
+  orders : map pdsOrder answers ≡ lineOrders lines
+  orders = ap (map pdsOrder) (run .0) ∙ reads-back pdsOrder carriedOf (λ i c. told i c .1) calls image ∙ explained .0 .carried
 
   the-lines-are-told : linesTold parties calls answers ≡ lines
   the-lines-are-told =
       ap (linesOf answers) (ap (effectsOf parties calls) numbers ∙ effects-are-told (stripOf image) parties calls)
       ∙ lines-are-columns lines answers numbers orders
 
-  pub every-run-of-C-calls-is-explained : ExplainedInTurn p parties calls answers last
+  -- The run is explained, and the image may be used on.
+  pub every-run-of-C-calls-is-explained : ExplainedRun p parties calls (linesTold parties calls answers) (stripOf last) × Intact last
   every-run-of-C-calls-is-explained =
-      let explained = every-run-on-an-image-is-explained image p parties begins calls fitting in
-      (explained .1, rw (in-turn-ends calls image answers last turn) (explained .2), rw the-lines-are-told (explained .3))
+      (rw (the-lines-are-told, run .1) (explained .1), rw (run .1) (explained .0 .intact))
 
 -- What pds_lay leaves where it answers 0 is such an image, with the divide that it was given.
 module _ (bytes : List ℕ) (max parties divide : ℕ) (image : List ℕ) (laid : PackedPromise (layOf bytes max parties divide) 0 image)
     (calls : List Call) (fitting : Every Fitting noCall calls) (answers last : List ℕ) (turn : InTurn image calls answers last) where
-  pub every-run-of-C-calls-after-pds-lay-is-explained : ExplainedInTurn (freshPlain max divide) parties calls answers last
+  pub every-run-of-C-calls-after-pds-lay-is-explained :
+      ExplainedRun (freshPlain max divide) parties calls (linesTold parties calls answers) (stripOf last) × Intact last
   every-run-of-C-calls-after-pds-lay-is-explained =
       every-run-of-C-calls-is-explained image (freshPlain max divide) parties
       (what-pds-lay-leaves-begins bytes max parties divide image laid) calls fitting answers last turn
 
   -- No order is lost, doubled or made up in them.
-  pub the-accounts-of-C-calls-are-closed : (q : Plain) → StandsFor (stripOf last) q
-      → (order : ℕ) → Closed order q (finishedOf parties calls (linesTold parties calls answers))
-  the-accounts-of-C-calls-are-closed q stands order =
-      let explained = every-run-of-C-calls-after-pds-lay-is-explained in
-      rw (a-strip-stands-for-one-plain-strip (stripOf last) q (explained .0) stands (explained .1))
-      (from-fresh-each-account-is-closed max divide (explained .2) order)
+  pub the-accounts-of-C-calls-are-closed : (q : Plain) × StandsFor (stripOf last) q
+      × ((order : ℕ) → Closed order q (finishedOf parties calls (linesTold parties calls answers)))
+  the-accounts-of-C-calls-are-closed =
+      let so = every-run-of-C-calls-after-pds-lay-is-explained .0 in
+      (so .0, so .1, from-fresh-each-account-is-closed max divide (so .2))

@@ -1,7 +1,7 @@
 -- Demand 3 of runs on an image. Whatever image whose header is taken, whose records are 32 zero bytes each and whose strip stands for
 -- a plain strip p, and whatever starts, steps and withdrawals, refused ones too: the run is explained by the plain strip.
 use Prim.Native.Nat.{ℕ, suc}
-use mathlib.Core.Path.{_≡_, refl, sym, _∙_, ap, ap₂, subst}
+use mathlib.Core.Path.{_≡_, refl, _∙_, ap, ap₂}
 use mathlib.Core.Bool.{true}
 use mathlib.Core.List.{List, [], _∷_, _++_}
 use lib.ListN.{length}
@@ -13,7 +13,6 @@ use Rattle.party.proofs.Cleared.{max-within}
 use Rattle.step.specs.Step.{stripFits}
 use Rattle.call.specs.Call.{Call, Fitting, Left}
 use Rattle.plain.specs.Plain.{Plain}
-use Rattle.strip.specs.Shape.{StandsFor}
 use Rattle.header.specs.Header.{maxAt}
 use Rattle.format.specs.Spelling.{stripOf, tableOf}
 use Rattle.on_image.specs.Intact.{Intact}
@@ -22,8 +21,7 @@ use Rattle.format.proofs.Spelled.{strip-length}
 use Rattle.image.specs.Calls.{Done, decoded, imageOf}
 use Rattle.image.proofs.Called.{strip-fits}
 use Rattle.history.specs.Run.{State, after, leaves, lineOf, linesFrom, endFrom, noCall}
-use Rattle.history.specs.Finished.{finishedOf}
-use Rattle.history.specs.Explained.{Explained}
+use Rattle.history.specs.Explained.{ExplainedRun}
 use Rattle.history.proofs.EverySchedule.{every-schedule-is-explained}
 use Rattle.on_image.specs.Run.{Begins, answersOn, imageAfter, firstOn, RunsAs}
 use Rattle.on_image.proofs.Beginning.{idle-parties-are-spelled, it-is-intact}
@@ -77,8 +75,6 @@ module _ (image : List ℕ) (p : Plain) (parties : ℕ) (begins : Begins image p
   -- spell a strip that stands for the plain strip at the end.
   pub every-run-on-an-image-is-explained :
       RunsAs (firstOn image parties) 0 image calls
-      × (q : Plain) × StandsFor (stripOf (imageAfter image calls)) q
-      × Explained p (finishedOf parties calls (linesFrom (firstOn image parties) 0 calls)) (length calls) q
+      × ExplainedRun p parties calls (linesFrom (firstOn image parties) 0 calls) (stripOf (imageAfter image calls))
   every-run-on-an-image-is-explained =
-      let explained = every-schedule-is-explained (stripOf image) p parties calls words-fit (begins .stands) fitting in
-      (runs, explained .0, subst (λ (strip : List ℕ). StandsFor strip (explained .0)) (sym (runs .strip)) (explained .1), explained .2)
+      (runs, rw (runs .strip) (every-schedule-is-explained (stripOf image) p parties calls words-fit (begins .stands) fitting))

@@ -1,10 +1,10 @@
 -- A fresh image: its header is taken, it spells a fresh strip and idle parties, and its bytes that must be zero are.
-use Prim.Native.Nat.{ℕ, zero, suc, _+_, _*_, _≤_, _<_}
+use Prim.Native.Nat.{ℕ, zero, _+_, _*_, _≤_, _<_}
 use mathlib.Core.Path.{_≡_, refl, sym, _∙_, ap}
 use mathlib.Core.Bool.{true}
-use mathlib.Core.List.{List, [], _∷_, _++_}
-use lib.ListN.{length, replicate, length-append, length-replicate, getD}
-use lib.Seq.{sets, getD-append-add}
+use mathlib.Core.List.{List, _∷_, _++_}
+use lib.ListN.{length, replicate, length-append, length-replicate, drop}
+use lib.Seq.{sets, drop-append-add, drop-append-seam}
 use lib.Dec.{leb}
 use borrow.Author.Tests.{eqb-true, eq-eqb, leb-true, le-ltb}
 use native.Mathlib.Omega.{arith}
@@ -20,7 +20,7 @@ use Rattle.strip.proofs.Laying.{fresh-length, fresh-words}
 use Rattle.strip.proofs.Values.{fresh-stands-for}
 use Rattle.little.specs.Bytes.{AreBytes, numberAt, bytesOf}
 use Rattle.little.proofs.Runs.{middle-run}
-use Rattle.little.proofs.Digits.{digits-are-bytes}
+use Rattle.little.proofs.Digits.{byte-before, bytes-behind, digits-are-bytes}
 use Rattle.header.specs.Header.{versionAt, partiesAt, maxAt, countsFit}
 use Rattle.format.specs.Format.{isKnown, lengthOf, headerRefusal, recordsIn, wordsBase}
 use Rattle.format.specs.Spelling.{wordsFrom, stripOf, tableOf, wordBytes}
@@ -28,23 +28,9 @@ use Rattle.format.specs.Fresh.{headerBytes, freshImage}
 use Rattle.on_image.specs.Intact.{Intact}
 use Rattle.on_image.specs.Run.{Begins}
 use Rattle.format.proofs.Parts.{partsFrom, withParts, laid-parts-read}
-use Rattle.format.proofs.Words.{wordPart, words-are-parts, words-laid-are-parts}
+use Rattle.format.proofs.Words.{wordPart, words-are-parts, words-laid-are-parts, words-are-bytes}
 use Rattle.format.proofs.Laying.{length-header, length-word-bytes}
 use Rattle.on_image.proofs.Beginning.{idle-parties-are-spelled, it-is-intact}
-
-bytes-append : (a b : List ℕ) → AreBytes a → AreBytes b → AreBytes (a ++ b)
-bytes-append [] b first second i = second i
-bytes-append (x ∷ a) b first second zero = first 0
-bytes-append (x ∷ a) b first second (suc i) = bytes-append a b (λ j. first (suc j)) second i
-
-byte-before : (x : ℕ) (l : List ℕ) → x < 256 → AreBytes l → AreBytes (x ∷ l)
-byte-before x l byte rest zero = byte
-byte-before x l byte rest (suc i) = rest i
-
-words-are-bytes : (words : List ℕ) → AreBytes (wordBytes words)
-unfolding wordBytes
-words-are-bytes [] = λ i. omega arith
-words-are-bytes (w ∷ words) = bytes-append (bytesOf 8 w) (wordBytes words) (digits-are-bytes 8 w) (words-are-bytes words)
 
 module _ (version max parties divide : ℕ) (known : isKnown version ≡ true) (fit : countsFit max parties ≡ true) (inside : divide ≤ max) where
   abbrev image : List ℕ
@@ -59,8 +45,9 @@ module _ (version max parties divide : ℕ) (known : isKnown version ≡ true) (
   abbrev zeros : List ℕ
   zeros = replicate (32 * parties) 0
 
-  one : version ≡ 1
-  one = eqb-true version 1 known
+  -- two bytes hold it
+  version-small : version < 65536
+  version-small = omega (arith, eqb-true version 1 known)
 
   within : (1 ≤ max) × (max ≤ 4094)
   within = max-within max (both (maxFits max) (tableFits parties) fit .0)
@@ -71,7 +58,7 @@ module _ (version max parties divide : ℕ) (known : isKnown version ≡ true) (
   -- what the header says
   version-is : versionAt image ≡ version
   unfolding numberAt bytesOf
-  version-is = omega (arith, one)
+  version-is = omega (arith, version-small)
 
   parties-are : partiesAt image ≡ parties
   unfolding bytesOf
@@ -101,20 +88,19 @@ module _ (version max parties divide : ℕ) (known : isKnown version ≡ true) (
       byte-before 80 (68 ∷ 83 ∷ behind) (omega arith)
       (byte-before 68 (83 ∷ behind) (omega arith)
       (byte-before 83 behind (omega arith)
-      (bytes-append (bytesOf 2 version) counts (digits-are-bytes 2 version)
+      (bytes-behind (bytesOf 2 version) counts (digits-are-bytes 2 version)
       (byte-before parties (bytesOf 2 max) (omega (arith, few)) (digits-are-bytes 2 max)))))
 
   fresh-bytes : AreBytes image
   fresh-bytes =
-      bytes-append header (words ++ zeros) header-are-bytes
-      (bytes-append words zeros (words-are-bytes (freshStrip max divide)) (λ i. rw (all-the-same {A = ℕ} (32 * parties) i 0) (omega arith)))
+      bytes-behind header (words ++ zeros) header-are-bytes
+      (bytes-behind words zeros (words-are-bytes (freshStrip max divide)) (λ i. rw (all-the-same {A = ℕ} (32 * parties) i 0) (omega arith)))
 
-  fresh-is-idle : (i : ℕ) → getD image (recordsIn image + i) 0 ≡ 0
-  fresh-is-idle i =
-      let place : recordsIn image + i ≡ length header + (length words + i) =
-      rw (max-is) (omega (arith, length-header version max parties, long-words)) in
-      rw place
-      (getD-append-add header (words ++ zeros) (length words + i) 0 ∙ getD-append-add words zeros i 0 ∙ all-the-same {A = ℕ} (32 * parties) i 0)
+  fresh-is-idle : drop (recordsIn image) image ≡ zeros
+  fresh-is-idle =
+      let place : recordsIn image ≡ length header + length words =
+      rw max-is (omega (arith, length-header version max parties, long-words)) in
+      rw place (drop-append-add header (words ++ zeros) (length words) ∙ drop-append-seam words zeros)
 
   fresh-spells-fresh : stripOf image ≡ freshStrip max divide
   fresh-spells-fresh =

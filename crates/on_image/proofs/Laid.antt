@@ -3,18 +3,22 @@ use Prim.Native.Nat.{ℕ, _≤_}
 use mathlib.Core.Path.{_≡_, refl}
 use mathlib.Core.Bool.{Bool, true, false, not}
 use mathlib.Core.List.{List}
-use lib.ListN.{length}
+use lib.ListN.{length, replicate}
 use lib.Dec.{eqb, leb}
 use borrow.Author.Tests.{eqb-true, leb-true, not-false}
 use native.Mathlib.Omega.{arith}
 use Rattle.logic.proofs.Bools.{both, passed}
+use Rattle.record.specs.Record.{idle}
 use Rattle.plain.specs.Plain.{freshPlain}
+use Rattle.strip.specs.Lay.{freshStrip}
 use Rattle.header.specs.Header.{countsFit}
 use Rattle.format.specs.Format.{lengthOf, sizesFit}
+use Rattle.format.specs.Spelling.{stripOf, tableOf}
 use Rattle.image.specs.Calls.{layRefusal, layOf}
 use Rattle.pds.specs.Packed.{PackedPromise}
+use Rattle.on_image.specs.Intact.{Intact}
 use Rattle.on_image.specs.Run.{Begins}
-use Rattle.on_image.proofs.Fresh.{a-fresh-image-begins}
+use Rattle.on_image.proofs.Fresh.{a-fresh-image-begins, a-fresh-image-spells-a-fresh-strip}
 
 module _ (bytes : List ℕ) (max parties divide : ℕ) where
   abbrev number : ℕ
@@ -34,6 +38,15 @@ module _ (bytes : List ℕ) (max parties divide : ℕ) where
   what-lay-leaves-begins none =
       let each = fits none in
       rw none (a-fresh-image-begins 1 max parties divide refl (each .0) (each .1))
+
+  -- It has a header that is taken and zeros where they must be, and spells the fresh strip and idle parties.
+  pub what-lay-leaves-spells-a-fresh-strip : number ≡ 0 →
+      let image = layOf bytes max parties divide .image in
+      Intact image × (stripOf image ≡ freshStrip max divide) × (tableOf image ≡ replicate parties idle)
+  unfolding layOf
+  what-lay-leaves-spells-a-fresh-strip none =
+      let each = fits none in
+      rw none (a-fresh-image-spells-a-fresh-strip 1 max parties divide refl (each .0) (each .1))
 
   -- an answer 0 is no refusal
   not-refused : (image : List ℕ) → PackedPromise (layOf bytes max parties divide) 0 image → number ≡ 0

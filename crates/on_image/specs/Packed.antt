@@ -2,17 +2,11 @@
 use Prim.Native.Nat.{ℕ}
 use mathlib.Core.Path.{_≡_}
 use mathlib.Core.List.{List, [], _∷_, map}
-use lib.ListN.{length}
 use Rattle.call.specs.Call.{Call}
-use Rattle.plain.specs.Plain.{Plain}
-use Rattle.strip.specs.Shape.{StandsFor}
-use Rattle.format.specs.Spelling.{stripOf}
 use Rattle.image.specs.Calls.{imageOf}
 use Rattle.pds.specs.Packed.{pdsNumber, pdsOrder, PackedPromise}
 use Rattle.history.specs.Run.{Line}
-use Rattle.history.specs.Finished.{finishedOf}
 use Rattle.history.specs.Told.{effectsOf}
-use Rattle.history.specs.Explained.{Explained}
 
 -- each keeps its promise on the bytes that the one before left: these are the answers, and the bytes after the last
 abbrev pub InTurn : (image : List ℕ) → List Call → (answers last : List ℕ) → Type 0
@@ -32,10 +26,3 @@ linesOf (answer ∷ answers) (effect ∷ effects) =
 -- the lines of the run, read from the calls and the answers and from nothing else
 abbrev pub linesTold : (parties : ℕ) → List Call → (answers : List ℕ) → List Line
 linesTold parties calls answers = linesOf answers (effectsOf parties calls (map pdsNumber answers))
-
--- Demand 3 as C sees it: the finished operations, read so, are explained from the plain strip p on, and the last bytes spell a strip
--- that stands for its end.
-abbrev pub ExplainedInTurn : (p : Plain) (parties : ℕ) → List Call → (answers last : List ℕ) → Type 0
-ExplainedInTurn p parties calls answers last =
-    (q : Plain) × StandsFor (stripOf last) q
-    × Explained p (finishedOf parties calls (linesTold parties calls answers)) (length calls) q
