@@ -57,9 +57,9 @@ party-is bytes at =
     P call = partyOf call ≡ partyAt bytes at
 
 -- An order in bytes is 32 bits wide.
-pub order-fits : (bytes : List ℕ) (at : ℕ) → AreBytes bytes → Fitting (callAt bytes at)
+pub an-order-in-bytes-has-32-bits : (bytes : List ℕ) (at : ℕ) → AreBytes bytes → Fitting (callAt bytes at)
 unfolding callAt
-order-fits bytes at are =
+an-order-in-bytes-has-32-bits bytes at are =
     whichever Fitting (isKnown (actAt bytes at) (operationAt bytes at) (zeroAt bytes at) (wordAt bytes at))
     (whichever Fitting (eqb (actAt bytes at) 0) (number-fits 4 bytes (at + 4) are) (whichever Fitting (eqb (actAt bytes at) 1) tt tt))
     (omega arith)

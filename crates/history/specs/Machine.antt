@@ -1,5 +1,5 @@
--- No public promise speaks of this file, nor does demand 3's theorem: proofs go by it. What is asked of a machine, one call at a time: an invariant of a state, of the plain strip p that its strip stands for, and of
--- `thens`, the plain strip at each party's last look.
+-- No public promise speaks of this file, nor does demand 3's theorem: proofs go by it. What is asked of a machine, one call at a time:
+-- an invariant of a state, of the plain strip p that its strip stands for, and of `thens`, the plain strip at each party's last look.
 use Prim.Native.Nat.{ℕ}
 use mathlib.Core.Path.{_≡_}
 use mathlib.Core.Bool.{true, false}

@@ -22,6 +22,13 @@ use Rattle.format.proofs.Sizes.{header-sized}
 use Rattle.format.proofs.Spelled.{strip-length, table-length, spelled-strip-is-decoded, spelled-table-is-decoded}
 use Rattle.image.proofs.Leaves.{words-fit, records-fit, fits-anywhere, Fit, own-leaves}
 
+-- Of the words and records that a call leaves: as many as before, and fitting.
+pub record LeftFits (strip : List ℕ) (table : List Record) (left : Left) : Type 0 where
+  pub as-many-words : length (left .strip) ≡ length strip
+  pub words : Every IsWord 0 (left .strip)
+  pub as-many-records : length (left .table) ≡ length table
+  pub records : Every RecordFits idle (left .table)
+
 -- The image of a call that the header and the spare bytes let through spells what the call leaves.
 module _ (image : List ℕ) (are : AreBytes image) (taken : headerRefusal image ≡ 0) (call : Call) (spare : spareRefused image call ≡ false)
     (narrow : Fitting call) where
@@ -43,32 +50,30 @@ module _ (image : List ℕ) (are : AreBytes image) (taken : headerRefusal image 
   unfolding imageOf
   spells = rw (taken, spare) refl
 
-  -- of the words and records that are left: as many as before, and fitting
-  abbrev pub Left-fits : Left → Type 0
-  Left-fits left =
-      (length (left .strip) ≡ length strip) × Every IsWord 0 (left .strip) × (length (left .table) ≡ length table) × Every RecordFits idle (left .table)
-
-  pub left-fits : Left-fits (decoded image call)
+  pub left-fits : LeftFits strip table (decoded image call)
   unfolding callOf
-  left-fits = whichever Left-fits (eqb (gate (length strip) (length table) call) 0) gone away
+  left-fits = whichever (LeftFits strip table) (eqb (gate (length strip) (length table) call) 0) gone away
     where
-      gone : Left-fits (through strip table call)
-      gone = (
-        own-fit .as-many,
-        own-fit .words,
-        length-set table (partyOf call) (ownOf strip own call .rec),
-        every-set RecordFits idle table (partyOf call) (ownOf strip own call .rec) (records-fit image are) (own-fit .rec),
-      )
+      gone : LeftFits strip table (through strip table call)
+      gone =
+          record {
+            as-many-words = own-fit .as-many;
+            words = own-fit .words;
+            as-many-records = length-set table (partyOf call) (ownOf strip own call .rec);
+            records = every-set RecordFits idle table (partyOf call) (ownOf strip own call .rec) (records-fit image are) (own-fit .rec);
+          }
 
-      away : Left-fits (turnedAway strip table (gate (length strip) (length table) call))
-      away = (refl, words-fit image are, refl, records-fit image are)
+      away : LeftFits strip table (turnedAway strip table (gate (length strip) (length table) call))
+      away = record { as-many-words = refl; words = words-fit image are; as-many-records = refl; records = records-fit image are }
 
   pub strip-after-is-decoded : stripOf (imageOf image call .image) ≡ decoded image call .strip
   strip-after-is-decoded =
       rw spells
-      (spelled-strip-is-decoded image _ _ (header-sized image taken .exact) (left-fits .0 ∙ strip-length image) (left-fits .2 ∙ table-length image) (left-fits .1))
+      (spelled-strip-is-decoded image _ _ (header-sized image taken .exact) (left-fits .as-many-words ∙ strip-length image)
+      (left-fits .as-many-records ∙ table-length image) (left-fits .words))
 
   pub table-after-is-decoded : tableOf (imageOf image call .image) ≡ decoded image call .table
   table-after-is-decoded =
       rw spells
-      (spelled-table-is-decoded image _ _ (header-sized image taken .exact) (left-fits .0 ∙ strip-length image) (left-fits .2 ∙ table-length image) (left-fits .3))
+      (spelled-table-is-decoded image _ _ (header-sized image taken .exact) (left-fits .as-many-words ∙ strip-length image)
+      (left-fits .as-many-records ∙ table-length image) (left-fits .records))

@@ -57,9 +57,9 @@ each-fits (call ∷ calls) fit zero within = fit .0
 each-fits (call ∷ calls) fit (suc i) within = each-fits calls (fit .1) i (omega arith)
 
 -- As it is, M3's run is explained, as every schedule on a fresh strip is.
-pub m3-as-it-is-is-explained : (q : Plain) × Explained (freshPlain 2 1) (finishedBy m3 (markLines m3)) 9 q
+pub m3-is-explained : (q : Plain) × Explained (freshPlain 2 1) (finishedBy m3 (markLines m3)) 9 q
 unfolding Fit
-m3-as-it-is-is-explained =
+m3-is-explained =
     let fits : Fit (markCalls m3) = (omega arith, (omega arith, (tt, (tt, (tt, (tt, (tt, (tt, (tt, tt))))))))) in
     let so = every-schedule-on-a-fresh-strip-is-explained 2 1 2 (markCalls m3) (omega arith) (omega arith) (omega arith)
     (each-fits (markCalls m3) fits) in

@@ -31,14 +31,14 @@ pub record Mark : Type 0 where
 abbrev pub markCalls : Mark → List Call
 markCalls m = map (λ (row : Row). row .call) (m .rows)
 
-abbrev pub markBegins : Mark → State
-markBegins m = begin (m .strip) (m .parties)
+abbrev pub markFirst : Mark → State
+markFirst m = begin (m .strip) (m .parties)
 
 -- All is seen as it must be, and the plain strip explains it.
 abbrev pub holds : Mark → Bool
 holds m =
     let calls = markCalls m in
-    let first = markBegins m in
+    let first = markFirst m in
     let last = endFrom first 0 calls .strip in
     allSame sameRow (seenFrom first 0 calls) (m .rows)
     && allSame eqb last (m .cells)

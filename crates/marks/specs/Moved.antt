@@ -4,10 +4,10 @@ use mathlib.Core.List.{List}
 use lib.ListN.{getD, set}
 use Rattle.history.specs.Run.{Line, noLine, linesFrom}
 use Rattle.history.specs.Finished.{Finished, finishedOf}
-use Rattle.marks.specs.Marks.{Mark, markCalls, markBegins, m1, m3}
+use Rattle.marks.specs.Marks.{Mark, markCalls, markFirst, m1, m3}
 
 abbrev pub markLines : Mark → List Line
-markLines m = linesFrom (markBegins m) 0 (markCalls m)
+markLines m = linesFrom (markFirst m) 0 (markCalls m)
 
 -- what is read as finished from a mark's calls and these lines
 abbrev pub finishedBy : Mark → List Line → List Finished

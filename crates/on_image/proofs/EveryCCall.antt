@@ -1,7 +1,7 @@
 -- Demand 3 of the C calls: what pds_start, pds_step and pds_withdraw answer, one after the other on one region of bytes, is explained
 -- by the plain strip; and so it is on what pds_lay left.
 use Prim.Native.Nat.{ℕ}
-use mathlib.Core.Path.{_≡_, refl, _∙_, ap, ap₂}
+use mathlib.Core.Path.{_≡_, refl, _∙_, ap, ap₂, subst}
 use mathlib.Core.List.{List, [], _∷_, map}
 use lib.ListN.{length, getD, drop}
 use native.Mathlib.Omega.{arith}
@@ -36,7 +36,8 @@ calls-in-turn-are-a-run [] image [] last same = (refl, same)
 calls-in-turn-are-a-run [] image (answer ∷ answers) last none = absurd none
 calls-in-turn-are-a-run (call ∷ calls) image [] last none = absurd none
 calls-in-turn-are-a-run (call ∷ calls) image (answer ∷ answers) last (next, kept, turn) =
-    let rest = calls-in-turn-are-a-run calls (imageOf image call .image) answers last (rw (kept .bytes) at turn) in
+    let rest = calls-in-turn-are-a-run calls (imageOf image call .image) answers last
+    (subst (λ (lent : List ℕ). InTurn lent calls answers last) (kept .bytes) turn) in
     (ap₂ (λ (n : ℕ) (ns : List ℕ). n ∷ ns) (kept .packed) (rest .0), rest .1)
 
 -- and a run on the image is calls in turn.

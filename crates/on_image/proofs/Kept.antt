@@ -29,7 +29,7 @@ module _ (image strip : List ℕ) (table : List Record) (intact : Intact image) 
   abbrev after : List ℕ
   after = spelled image strip table
 
-  pub parties-kept : partiesAt after ≡ partiesAt image
+  parties-kept : partiesAt after ≡ partiesAt image
   parties-kept = header-kept image strip table 5 (omega arith)
 
   module _ (words : length strip ≡ maxAt image + 2) where
@@ -45,7 +45,7 @@ module _ (image strip : List ℕ) (table : List Record) (intact : Intact image) 
         rw (max-kept image strip table, same-number 8 after image (partyPlace image party + 24) (spare-agrees party))
         (intact .spare party (rw parties-kept at known))
 
-    pub spelled-is-intact : Every IsWord 0 strip → Every RecordFits idle table → Intact after
+    spelled-is-intact : Every IsWord 0 strip → Every RecordFits idle table → Intact after
     spelled-is-intact fit records =
         record {
           bytes = still-bytes image strip table (intact .bytes) fit records;
@@ -75,7 +75,8 @@ module _ (image : List ℕ) (intact : Intact image) (call : Call) (narrow : Fitt
   a-call-keeps-an-image-intact =
       let fits = left-fits image (intact .bytes) (intact .taken) call none-spared narrow in
       subst Intact (sym (spells image (intact .bytes) (intact .taken) call none-spared narrow))
-      (spelled-is-intact image (decoded image call .strip) (decoded image call .table) intact (fits .0 ∙ strip-length image) (fits .1) (fits .3))
+      (spelled-is-intact image (decoded image call .strip) (decoded image call .table) intact (fits .as-many-words ∙ strip-length image)
+      (fits .words) (fits .records))
 
   pub strip-after : stripOf (imageOf image call .image) ≡ decoded image call .strip
   strip-after = strip-after-is-decoded image (intact .bytes) (intact .taken) call none-spared narrow

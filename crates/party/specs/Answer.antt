@@ -50,6 +50,6 @@ unless number r done = pick (eqb number 0) done (refused number r)
 abbrev pub RefusedKeeps : Record → Answered → Type 0
 RefusedKeeps r given = isRefusal (numberOf (given .answer)) ≡ true → (given .rec ≡ r) × (carriedOf (given .answer) ≡ 0)
 
--- A call is refused, or gives what another gives.
-abbrev pub RefusedOr : (other given : Answered) → Type 0
-RefusedOr other given = (isRefusal (numberOf (given .answer)) ≡ true) ⊎ (given ≡ other)
+-- a call is refused, or gives what is wanted
+abbrev pub RefusedOr : (wanted given : Answered) → Type 0
+RefusedOr wanted given = (isRefusal (numberOf (given .answer)) ≡ true) ⊎ (given ≡ wanted)

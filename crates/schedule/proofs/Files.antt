@@ -17,7 +17,7 @@ use Rattle.strip.specs.Lay.{freshStrip, layRefusal, layLeaves, LayPromise}
 use Rattle.strip.specs.declared.Laid.{Laid}
 use Rattle.strip.proofs.Laying.{laid-leaves}
 use Rattle.entry.specs.Entry.{callAt}
-use Rattle.entry.proofs.Asks.{party-is, order-fits}
+use Rattle.entry.proofs.Asks.{party-is, an-order-in-bytes-has-32-bits}
 use Rattle.history.specs.Run.{noCall, endFrom}
 use Rattle.listing.specs.Listing.{runText, headerText, cellsText, listingText, longest, Narrow}
 use Rattle.listing.proofs.Longest.{no-listing-is-longer}
@@ -89,11 +89,11 @@ module _ (P : Call → Type 0) (file : List ℕ) (holds : (at : ℕ) → P (call
   every-call at (suc count) (suc i) within = every-call (at + 8) count i (omega arith)
 
 -- the party of an entry is a byte, its order 32 bits
-calls-narrow : (file : List ℕ) → AreBytes file → Every Narrow noCall (callsOf file)
+pub calls-narrow : (file : List ℕ) → AreBytes file → Every Narrow noCall (callsOf file)
 calls-narrow file bytes = every-call Narrow file (λ at. rw (party-is file at) (bytes (at + 1))) 10 (entriesOf file)
 
 pub calls-fit : (file : List ℕ) → AreBytes file → Every Fitting noCall (callsOf file)
-calls-fit file bytes = every-call Fitting file (λ at. order-fits file at bytes) 10 (entriesOf file)
+calls-fit file bytes = every-call Fitting file (λ at. an-order-in-bytes-has-32-bits file at bytes) 10 (entriesOf file)
 
 -- What is said of a file's listing holds of bytes.
 module _ (file : List ℕ) (passes : fileRefusal file ≡ 0) (bytes : AreBytes file) where

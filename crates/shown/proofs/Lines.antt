@@ -44,7 +44,7 @@ effect-is-read line small = go (isResult (line .number))
 
 module _ (entry : ℕ) (call : Call) (line : Line) where
   -- a line's text without the end of its row
-  abbrev lineRow : List ℕ
+  abbrev pub lineRow : List ℕ
   lineRow = decimal entry ++ (spaced (partyOf call) ++ (spaced (line .number) ++ (spaced (line .carried) ++ (32 ∷ effectText line))))
 
   line-ends : (rest : List ℕ) → lineText entry call line ++ rest ≡ lineRow ++ (10 ∷ rest)
@@ -54,7 +54,7 @@ module _ (entry : ℕ) (call : Call) (line : Line) where
   unfolding lacks
   line-goes-on = simp (lacks-both 10, digits-lack 10 (omega arith), effect-lacks 10 line (omega arith))
 
-  line-is-cut : split 32 lineRow
+  pub line-is-cut : split 32 lineRow
       ≡ decimal entry ∷ decimal (partyOf call) ∷ decimal (line .number) ∷ decimal (line .carried) ∷ effectText line ∷ []
   line-is-cut =
       simp (number-first 32 (omega arith), only-piece 32 (effectText line) (effect-lacks 32 line (omega arith)))

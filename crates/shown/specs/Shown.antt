@@ -5,10 +5,8 @@ use lib.ListN.{getD, take, drop}
 use lib.Dec.{eqb}
 use Rattle.logic.specs.Pick.{pick}
 use Rattle.word.specs.Word.{wordOf}
-use Rattle.header.specs.Header.{partiesAt}
 use Rattle.history.specs.Run.{Line}
-use Rattle.history.specs.Finished.{Finished, finishedOf}
-use Rattle.schedule.specs.File.{entriesOf, callsOf}
+use Rattle.schedule.specs.File.{entriesOf}
 
 -- the byte goes in front of the first piece
 abbrev pub inFront : (byte : ℕ) (pieces : List (List ℕ)) → List (List ℕ)
@@ -57,7 +55,3 @@ shownWord text = wordOf (decimalIn (getD (split 46 text) 1 [])) (decimalIn (getD
 -- the words that the row behind the entries' rows shows, behind its first field "cells"
 abbrev pub cellsIn : (file text : List ℕ) → List ℕ
 cellsIn file text = map shownWord (drop 1 (split 32 (getD (rows text) (entriesOf file + 1) [])))
-
--- the finished operations that a listing shows
-abbrev pub finishedIn : (file text : List ℕ) → List Finished
-finishedIn file text = finishedOf (partiesAt file) (callsOf file) (linesIn file text)

@@ -13,7 +13,7 @@ use Rattle.word.specs.declared.Swapped.the-variants.{Won, Lost, Stuck}
 abbrev pub swapOf : (met from : ℕ) → Swapped
 swapOf met from = pick (eqb met from) (pick (eqb (counterOf from) lastCounter) Stuck Won) (Lost met)
 
--- one that won met the word it expected, and that word's counter was not at its end.
+-- A swap that won met the word it expected, and that word's counter was not at its end.
 pub record Took (met from : ℕ) : Type 0 where
   pub same : met ≡ from
   pub unended : counterOf from ≡ lastCounter → ⊥
