@@ -11,8 +11,8 @@ use native.Mathlib.Omega.{arith}
 use Rattle.logic.specs.Pick.{pick}
 use Rattle.logic.proofs.Bools.{both}
 use Rattle.record.specs.Record.{idle}
-use Rattle.party.specs.Answer.{isRefusal}
 use Rattle.record.specs.declared.Record.{Record}
+use Rattle.party.specs.Answer.{isRefusal}
 use Rattle.call.specs.Call.{Call, partyOf}
 use Rattle.history.specs.Run.{State, Line, noLine, begin, isStep, leaves, lineOf, linesFrom, looked, numberIn, looksNow}
 use Rattle.history.specs.Entries.{stateAt, callIn, recordBefore, LookedAt}

@@ -5,9 +5,9 @@ use mathlib.Core.List.{List}
 use lib.ListN.{length, getD}
 use Rattle.plain.specs.Plain.{Plain}
 use Rattle.plain.specs.Play.{Yields}
-use Rattle.placing.specs.Placing.{inOrder, Plays}
-use Rattle.strip.specs.Shape.{StandsFor}
 use Rattle.call.specs.Call.{Call}
+use Rattle.strip.specs.Shape.{StandsFor}
+use Rattle.placing.specs.Placing.{inOrder, Plays}
 use Rattle.history.specs.Run.{Line}
 use Rattle.history.specs.Finished.{Finished, finishedOf}
 

@@ -4,9 +4,11 @@ use mathlib.Core.Path.{_≡_, refl, sym, _∙_, ap, ap₂}
 use mathlib.Core.List.{List, _∷_}
 use lib.ListN.{getD, replicate}
 use lib.Seq.{getD-drop}
-use Rattle.logic.proofs.Lists.{all-the-same}
-use Rattle.little.proofs.Digits.{zeros-spell-0}
+use borrow.Author.Tests.{eq-eqb}
 use native.Mathlib.Omega.{arith}
+use Rattle.logic.proofs.Lists.{all-the-same}
+use Rattle.little.specs.Bytes.{numberAt}
+use Rattle.little.proofs.Digits.{zeros-spell-0}
 use Rattle.record.specs.Record.{idle}
 use Rattle.record.specs.declared.Record.{Record}
 use Rattle.plain.specs.Plain.{Plain}
@@ -60,5 +62,6 @@ module _ (image : List ℕ) (p : Plain) (parties : ℕ) (begins : Begins image p
       record {
         bytes = begins .bytes;
         taken = begins .taken;
-        spare = λ party known. rw (zeros-spell-0 8 image (partyPlace image party + 24) (spare-is-zero party)) refl;
+        spare = λ party known.
+            eq-eqb (numberAt 8 image (partyPlace image party + 24)) 0 (zeros-spell-0 8 image (partyPlace image party + 24) (spare-is-zero party));
       }

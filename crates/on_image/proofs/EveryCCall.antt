@@ -8,8 +8,8 @@ use native.Mathlib.Omega.{arith}
 use Rattle.logic.specs.Every.{Every}
 use Rattle.party.specs.Answer.{numberOf, carriedOf}
 use Rattle.party.specs.declared.Answer.{Answer}
-use Rattle.call.specs.Call.{Call, Fitting}
 use Rattle.plain.specs.Plain.{Plain, freshPlain}
+use Rattle.call.specs.Call.{Call, Fitting}
 use Rattle.strip.specs.Shape.{StandsFor}
 use Rattle.format.specs.Spelling.{stripOf}
 use Rattle.image.specs.Calls.{imageOf, layOf}

@@ -10,12 +10,11 @@ use Rattle.logic.specs.Every.{Every}
 use Rattle.party.specs.Answer.{numberOf, carriedOf}
 use Rattle.party.specs.declared.Answer.{Answer}
 use Rattle.party.proofs.Cleared.{max-within}
+use Rattle.plain.specs.Plain.{Plain}
 use Rattle.step.specs.Step.{stripFits}
 use Rattle.call.specs.Call.{Call, Fitting, Left}
-use Rattle.plain.specs.Plain.{Plain}
 use Rattle.header.specs.Header.{maxAt}
 use Rattle.format.specs.Spelling.{stripOf, tableOf}
-use Rattle.on_image.specs.Intact.{Intact}
 use Rattle.format.proofs.Sizes.{header-sized}
 use Rattle.format.proofs.Spelled.{strip-length}
 use Rattle.image.specs.Calls.{Done, decoded, imageOf}
@@ -23,6 +22,7 @@ use Rattle.image.proofs.Called.{strip-fits}
 use Rattle.history.specs.Run.{State, after, leaves, lineOf, linesFrom, endFrom, noCall}
 use Rattle.history.specs.Explained.{ExplainedRun}
 use Rattle.history.proofs.EverySchedule.{every-schedule-is-explained}
+use Rattle.on_image.specs.Intact.{Intact}
 use Rattle.on_image.specs.Run.{Begins, answersOn, imageAfter, firstOn, RunsAs}
 use Rattle.on_image.proofs.Beginning.{idle-parties-are-spelled, it-is-intact}
 use Rattle.on_image.proofs.Kept.{an-intact-image-is-called-decoded, a-call-keeps-an-image-intact, strip-after, table-after}

@@ -10,26 +10,26 @@ use borrow.Author.Tests.{eqb-true, eq-eqb, leb-true, le-ltb}
 use native.Mathlib.Omega.{arith}
 use Rattle.logic.proofs.Bools.{both}
 use Rattle.logic.proofs.Lists.{all-the-same}
-use Rattle.record.specs.Record.{idle}
-use Rattle.party.specs.Calls.{maxFits}
-use Rattle.party.proofs.Cleared.{max-within}
-use Rattle.call.specs.Call.{tableFits}
-use Rattle.plain.specs.Plain.{freshPlain}
-use Rattle.strip.specs.Lay.{freshStrip}
-use Rattle.strip.proofs.Laying.{fresh-length, fresh-words}
-use Rattle.strip.proofs.Values.{fresh-stands-for}
 use Rattle.little.specs.Bytes.{AreBytes, numberAt, bytesOf}
 use Rattle.little.proofs.Runs.{middle-run}
 use Rattle.little.proofs.Digits.{byte-before, bytes-behind, digits-are-bytes}
+use Rattle.record.specs.Record.{idle}
+use Rattle.party.specs.Calls.{maxFits}
+use Rattle.party.proofs.Cleared.{max-within}
+use Rattle.plain.specs.Plain.{freshPlain}
+use Rattle.call.specs.Call.{tableFits}
+use Rattle.strip.specs.Lay.{freshStrip}
+use Rattle.strip.proofs.Laying.{fresh-length, fresh-words}
+use Rattle.strip.proofs.Values.{fresh-stands-for}
 use Rattle.header.specs.Header.{versionAt, partiesAt, maxAt, countsFit}
 use Rattle.format.specs.Format.{isKnown, lengthOf, headerRefusal, recordsIn, wordsBase}
 use Rattle.format.specs.Spelling.{wordsFrom, stripOf, tableOf, wordBytes}
 use Rattle.format.specs.Fresh.{headerBytes, freshImage}
-use Rattle.on_image.specs.Intact.{Intact}
-use Rattle.on_image.specs.Run.{Begins}
 use Rattle.format.proofs.Parts.{partsFrom, withParts, laid-parts-read}
 use Rattle.format.proofs.Words.{wordPart, words-are-parts, words-laid-are-parts, words-are-bytes}
 use Rattle.format.proofs.Laying.{length-header, length-word-bytes}
+use Rattle.on_image.specs.Intact.{Intact}
+use Rattle.on_image.specs.Run.{Begins}
 use Rattle.on_image.proofs.Beginning.{idle-parties-are-spelled, it-is-intact}
 
 module _ (version max parties divide : ℕ) (known : isKnown version ≡ true) (fit : countsFit max parties ≡ true) (inside : divide ≤ max) where

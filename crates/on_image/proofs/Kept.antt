@@ -8,21 +8,21 @@ use lib.Dec.{eqb}
 use borrow.Author.Tests.{eqb-true}
 use native.Mathlib.Omega.{arith}
 use Rattle.logic.specs.Every.{Every}
+use Rattle.little.proofs.Runs.{Agree}
+use Rattle.little.proofs.Digits.{same-number}
 use Rattle.word.specs.Word.{IsWord}
 use Rattle.record.specs.Record.{idle}
 use Rattle.record.specs.declared.Record.{Record}
 use Rattle.call.specs.Call.{Call, Fitting, partyOf, gate}
 use Rattle.call.proofs.Called.{past-gate}
-use Rattle.little.proofs.Runs.{Agree}
-use Rattle.little.proofs.Digits.{same-number}
 use Rattle.header.specs.Header.{versionAt, partiesAt, maxAt}
 use Rattle.format.specs.Format.{partyPlace}
 use Rattle.format.specs.Spelling.{stripOf, tableOf, isSpare, spelled, RecordFits}
-use Rattle.on_image.specs.Intact.{Intact}
 use Rattle.format.proofs.Sizes.{same-header}
 use Rattle.format.proofs.Spelled.{strip-length, as-long, still-bytes, header-kept, max-kept, spare-bytes-kept}
 use Rattle.image.specs.Calls.{decoded, encoded, spareRefused, imageOf}
 use Rattle.image.proofs.Decoded.{spells, left-fits, strip-after-is-decoded, table-after-is-decoded}
+use Rattle.on_image.specs.Intact.{Intact}
 
 -- Words and records that fit, spelled in an intact image, leave it intact.
 module _ (image strip : List ℕ) (table : List Record) (intact : Intact image) where

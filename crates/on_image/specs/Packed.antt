@@ -4,9 +4,9 @@ use mathlib.Core.Path.{_≡_}
 use mathlib.Core.List.{List, [], _∷_, map}
 use Rattle.call.specs.Call.{Call}
 use Rattle.image.specs.Calls.{imageOf}
-use Rattle.pds.specs.Packed.{pdsNumber, pdsOrder, PackedPromise}
 use Rattle.history.specs.Run.{Line}
 use Rattle.history.specs.Told.{effectsOf}
+use Rattle.pds.specs.Packed.{pdsNumber, pdsOrder, PackedPromise}
 
 -- each keeps its promise on the bytes that the one before left: these are the answers, and the bytes after the last
 abbrev pub InTurn : (image : List ℕ) → List Call → (answers last : List ℕ) → Type 0

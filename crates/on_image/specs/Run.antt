@@ -3,12 +3,12 @@ use Prim.Native.Nat.{ℕ, _*_}
 use mathlib.Core.Path.{_≡_}
 use mathlib.Core.List.{List, [], _∷_, map}
 use lib.ListN.{drop, replicate}
+use Rattle.little.specs.Bytes.{AreBytes}
 use Rattle.party.specs.Answer.{numberOf, carriedOf}
 use Rattle.party.specs.declared.Answer.{Answer}
-use Rattle.call.specs.Call.{Call}
 use Rattle.plain.specs.Plain.{Plain}
+use Rattle.call.specs.Call.{Call}
 use Rattle.strip.specs.Shape.{StandsFor}
-use Rattle.little.specs.Bytes.{AreBytes}
 use Rattle.header.specs.Header.{partiesAt}
 use Rattle.format.specs.Format.{headerRefusal, recordsIn}
 use Rattle.format.specs.Spelling.{stripOf, tableOf}

@@ -7,9 +7,9 @@ use native.Mathlib.Nat.{zero-add}
 use native.Mathlib.Numerals.{add-one}
 use native.Mathlib.Omega.{arith}
 use Rattle.little.specs.Bytes.{AreBytes}
-use Rattle.text.specs.Text.{decimal}
 use Rattle.call.specs.Call.{Call, partyOf}
 use Rattle.header.specs.Header.{partiesAt, maxAt}
+use Rattle.text.specs.Text.{decimal}
 use Rattle.history.specs.Run.{State, noCall, noLine, leaves, linesFrom}
 use Rattle.schedule.specs.File.{divideAt, entriesOf, fileRefusal, callsOf}
 use Rattle.schedule.specs.List.{listingOf, firstOf}

@@ -12,8 +12,8 @@ use Rattle.logic.specs.Every.{Every}
 use Rattle.logic.proofs.Bools.{passed}
 use Rattle.little.specs.Bytes.{AreBytes}
 use Rattle.word.specs.Word.{IsWord}
-use Rattle.call.specs.Call.{Call}
 use Rattle.plain.specs.Plain.{freshPlain}
+use Rattle.call.specs.Call.{Call}
 use Rattle.header.specs.Header.{partiesAt, maxAt}
 use Rattle.history.specs.Run.{Line, linesFrom, endFrom}
 use Rattle.history.specs.Finished.{finishedOf}

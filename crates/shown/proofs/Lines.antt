@@ -9,8 +9,8 @@ use native.Mathlib.Omega.{arith}
 use Rattle.logic.specs.Pick.{pick}
 use Rattle.logic.specs.Every.{Every}
 use Rattle.logic.proofs.Bools.{whichever}
-use Rattle.text.specs.Text.{decimal, spaced}
 use Rattle.call.specs.Call.{Call, partyOf}
+use Rattle.text.specs.Text.{decimal, spaced}
 use Rattle.history.specs.Run.{State, Line, lineOf, leaves, linesFrom, noLine}
 use Rattle.history.specs.Finished.{isResult}
 use Rattle.listing.specs.Listing.{effectText, lineText, linesText, runText}

@@ -3,8 +3,8 @@ use Prim.Native.Nat.{ℕ}
 use mathlib.Core.Path.{_≡_, refl, _∙_, ap}
 use mathlib.Core.List.{List, [], _∷_, _++_, append-assoc}
 use native.Mathlib.Omega.{arith}
-use Rattle.text.specs.Text.{spaced}
 use Rattle.call.specs.Call.{Call}
+use Rattle.text.specs.Text.{spaced}
 use Rattle.history.specs.Run.{State, endFrom}
 use Rattle.listing.specs.Listing.{headerText, runText, cellsText, firstState, listingText}
 use Rattle.shown.specs.Shown.{rows}
