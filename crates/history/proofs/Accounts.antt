@@ -1,5 +1,5 @@
 -- An accepted order is held or was taken, as often as it was accepted, and no other order appears.
-use Prim.Native.Nat.{ℕ, _+_}
+use Prim.Native.Nat.{ℕ, _+_, _≤_}
 use mathlib.Core.Path.{_≡_, refl}
 use mathlib.Core.List.{List, [], _∷_}
 use native.Mathlib.Omega.{arith}
@@ -49,3 +49,12 @@ unfolding total
 from-fresh-each-account-is-closed max divide explained order =
     let balanced = accepted-is-held-or-taken explained order in
     record { balanced = omega arith; none-made-up = no-other-order-appears explained order refl }
+
+-- In a closed account no order is lost: what was accepted is held or was taken; and none is doubled: what is held or was taken was accepted.
+pub no-order-is-lost : {order : ℕ} {p : Plain} {finished : List Finished} → Closed order p finished
+    → accepted order finished ≤ held order p + taken order finished
+no-order-is-lost closed = omega (arith, closed .balanced)
+
+pub no-order-is-doubled : {order : ℕ} {p : Plain} {finished : List Finished} → Closed order p finished
+    → held order p + taken order finished ≤ accepted order finished
+no-order-is-doubled closed = omega (arith, closed .balanced)

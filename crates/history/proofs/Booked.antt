@@ -74,7 +74,7 @@ module _ (n : ℕ) (s : State) (asked : List Asked) (booked : Booked n s asked) 
       go : (now : Bool) → looksNow s call i ≡ now → Next i → LastLook s n call i
       go true e after = new e (eqb-true i (partyOf call) (both (looked s call (numberIn s call)) _ e .1)) (rw e at is)
       go false e (After.idles ended) = absurd (let at : 2 ≤ 0 = rw ended at on in omega arith)
-      go false e (After.begins operation order begun-is asked-is) = absurd (let at : 2 ≤ 1 = rw begun-is at on in omega arith)
+      go false e (After.begins operation order start begun-is asked-is) = absurd (let at : 2 ≤ 1 = rw begun-is at on in omega arith)
       go false e (After.carries same operation v busy second) = old e (rw e at is) (second e on)
 
   asks-next : (i : ℕ) → 1 ≤ getD (leaves s n call .table) i idle .stage
@@ -83,7 +83,7 @@ module _ (n : ℕ) (s : State) (asked : List Asked) (booked : Booked n s asked) 
     where
       go : Next i → Asks (suc n) (getD (askedAfter asked n call (lineOf s n call)) i nothingYet) (getD (leaves s n call .table) i idle)
       go (After.idles ended) = absurd (let at : 1 ≤ 0 = rw ended at on in omega arith)
-      go (After.begins operation order begun-is asked-is) =
+      go (After.begins operation order start begun-is asked-is) =
           rw (begun-is, asked-is) (record { operation = refl; order = refl; past = omega arith })
       go (After.carries same operation v busy second) =
           let before = booked .asked-so i (busy on) in
@@ -99,7 +99,7 @@ module _ (n : ℕ) (s : State) (asked : List Asked) (booked : Booked n s asked) 
           → (getD (askedAfter asked n call (lineOf s n call)) i nothingYet .entry < getD (leaves s n call .looks) i 0)
           × (getD (leaves s n call .looks) i 0 < suc n)
       go (After.idles ended) last = absurd (let at : 2 ≤ 0 = rw ended at on in omega arith)
-      go (After.begins operation order begun-is asked-is) last = absurd (let at : 2 ≤ 1 = rw begun-is at on in omega arith)
+      go (After.begins operation order start begun-is asked-is) last = absurd (let at : 2 ≤ 1 = rw begun-is at on in omega arith)
       go (After.carries same operation v busy second) (new now at look) =
           rw (same, look) (booked .asked-so i (busy (omega arith)) .past, omega arith)
       go (After.carries same operation v busy second) (old now look stage) =

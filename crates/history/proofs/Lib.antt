@@ -12,7 +12,8 @@ pub mod Explaining
 -- The strip is such a machine
 pub mod Keeping
 pub mod Counters
--- What follows from an explanation: accounts, and what an answer tells of its effect
+-- What follows: that each finished operation was asked for, accounts, and what an answer tells of its effect
+pub mod Asked
 pub mod Accounts
 pub mod Effects
 -- Demand 3, and where FULL and EMPTY took effect

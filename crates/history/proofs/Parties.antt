@@ -40,7 +40,7 @@ step-looks-now s i hint none (inr two) = rw (none, two, eq-eqb i i refl) refl
 -- with what it was asked, and was at stage 2 or more if it is now and does not look at this entry.
 pub data After (s : State) (entry : ℕ) (call : Call) (i : ℕ) (was is : Asked) (r next : Record) : Type 0 where
   idles : next ≡ idle → After s entry call i was is r next
-  begins : (operation order : ℕ) → next ≡ begun operation order
+  begins : (operation order : ℕ) → call ≡ Call.start i operation order → next ≡ begun operation order
       → is ≡ record { operation = operation; order = order; entry = entry } → After s entry call i was is r next
   carries : is ≡ was → next .operation ≡ r .operation → next .v ≡ r .v → (1 ≤ next .stage → 1 ≤ r .stage)
       → (looksNow s call i ≡ false → 2 ≤ next .stage → 2 ≤ r .stage) → After s entry call i was is r next
@@ -147,7 +147,7 @@ module _ (s : State) (entry : ℕ) where
     own-after call size (Own.refused refusal same) =
         unchanged call (partyOf call) (ap (λ (l : List Asked). getD l (partyOf call) nothingYet) (asked-refused call refusal)) same
     own-after call size (Own.begins operation order is known none begun-is) =
-        begins operation order begun-is (rw is (rw (rw is at none) (getD-set-same asked (partyOf call) _ nothingYet (rw size known))))
+        begins operation order is begun-is (rw is (rw (rw is at none) (getD-set-same asked (partyOf call) _ nothingYet (rw size known))))
     own-after call size (Own.withdrawn other none ended) = idles ended
     own-after call size (Own.steps hint is known busy (Stepped.going-on none operation v to-2 to-3)) =
         carries (rw is refl) operation v (λ later. busy)

@@ -1,5 +1,6 @@
 -- The finished operations of a schedule, read from its entries and their lines alone.
 use Prim.Native.Nat.{ℕ, suc}
+use mathlib.Core.Path.{_≡_}
 use mathlib.Core.Bool.{Bool, _&&_}
 use mathlib.Core.List.{List, [], _∷_, _++_}
 use lib.ListN.{getD, set, replicate}
@@ -63,3 +64,7 @@ finishedFrom asked entry (call ∷ calls) (line ∷ lines) =
 -- of a whole schedule, with this many parties
 abbrev pub finishedOf : (parties : ℕ) → List Call → List Line → List Finished
 finishedOf parties calls lines = finishedFrom (replicate parties nothingYet) 0 calls lines
+
+-- the call at its start asked for it, of the party that is called at its answer
+abbrev pub WasAsked : (call : ℕ → Call) → Finished → Type 0
+WasAsked call f = call (f .started) ≡ Call.start (partyOf (call (f .answered))) (f .operation) (f .order)

@@ -1,4 +1,5 @@
 -- Every starred mark holds, by computation.
+use Prim.Native.Nat.{ℕ}
 use mathlib.Core.Path.{_≡_, refl}
 use mathlib.Core.Bool.{true, _&&_}
 use Rattle.record.specs.Valid.{validOf}
@@ -13,13 +14,14 @@ use Rattle.plain.specs.Play.{play}
 use Rattle.placing.specs.Placing.{atEntry, inOrder}
 use Rattle.history.specs.Run.{lineOf, leaves, linesFrom, endFrom}
 use Rattle.history.specs.Finished.{finishedFrom}
+use Rattle.marks.specs.Fight.{fight}
 use Rattle.marks.specs.Seen.{seenFrom}
 use Rattle.marks.specs.Replay.{allSame, replays}
 use Rattle.little.specs.Bytes.{numberAt}
 use Rattle.text.specs.Text.{digitsOf}
 use Rattle.entry.specs.Entry.{callAt}
 use Rattle.listing.specs.Listing.{listingText, linesText, wordsText}
-use Rattle.schedule.specs.File.{callsFrom}
+use Rattle.schedule.specs.File.{callsFrom, fileRefusal}
 use Rattle.marks.specs.Marks.{allHold, marks, prints}
 
 pub the-marks-hold : allHold marks && prints ≡ true
@@ -27,3 +29,8 @@ unfolding validOf startOwn startRefusal startOf accessOf judgeOf recheckOf stepO
     measure.runOf measureOf play atEntry inOrder lineOf leaves linesFrom endFrom finishedFrom seenFrom allSame replays allHold
     numberAt callAt callsFrom digitsOf listingText linesText wordsText
 the-marks-hold = refl
+
+-- Document 01's nine entries are a file that no check refuses.
+pub the-fight-is-not-refused : fileRefusal fight ≡ 0
+unfolding fileRefusal numberAt
+the-fight-is-not-refused = refl

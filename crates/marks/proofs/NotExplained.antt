@@ -3,6 +3,7 @@ use Prim.Native.Nat.{ℕ, zero, suc, _<_}
 use mathlib.Core.Path.{_≡_, refl, sym}
 use mathlib.Core.Bool.{true, true≢false}
 use mathlib.Core.List.{List, [], _∷_}
+use lib.ListN.{getD}
 use lib.Dec.{eqb}
 use borrow.Author.Tests.{eq-eqb}
 use native.Mathlib.Omega.{arith}
@@ -19,7 +20,7 @@ use Rattle.plain.specs.Play.{play}
 use Rattle.placing.specs.Placing.{atEntry, inOrder, Plays}
 use Rattle.history.specs.Run.{noCall, lineOf, leaves, linesFrom}
 use Rattle.history.specs.Finished.{Finished, finishedFrom}
-use Rattle.history.specs.Explained.{Agrees, Explained}
+use Rattle.history.specs.Explained.{Agrees, Explained, none}
 use Rattle.history.proofs.EverySchedule.{every-schedule-on-a-fresh-strip-is-explained}
 use Rattle.marks.specs.Replay.{allSame, plainOf, samePlain, replays}
 use Rattle.marks.specs.Marks.{markCalls, afterM1, m3}
@@ -65,7 +66,12 @@ m3-is-explained =
     (each-fits (markCalls m3) fits) in
     (so .0, so .2)
 
--- M3's EMPTY cannot take effect at its answer: 7 is held by then.
+-- M3's EMPTY, moved to its answer, cannot have taken effect there: 7 is held by then.
+pub it-is-moved-to-its-answer : getD emptyAtItsAnswer 1 none .effect ≡ getD emptyAtItsAnswer 1 none .answered
+unfolding validOf startOwn startRefusal startOf accessOf judgeOf recheckOf stepOwn stepRefusal stepOf stepLeaves gate callOf
+    lineOf leaves linesFrom finishedFrom
+it-is-moved-to-its-answer = refl
+
 pub empty-at-its-answer-is-not-explained : (q : Plain) → Explained (freshPlain 2 1) emptyAtItsAnswer 9 q → ⊥
 unfolding validOf startOwn startRefusal startOf accessOf judgeOf recheckOf stepOwn stepRefusal stepOf stepLeaves gate callOf
     play atEntry inOrder lineOf leaves linesFrom finishedFrom replays

@@ -1,14 +1,14 @@
 -- The mirror of a word: its counter is kept, its nulls are exchanged, and nothing of it is lost.
-use Prim.Native.Nat.{ℕ, _+_, _<_, _≤_}
+use Prim.Native.Nat.{ℕ, zero, suc, _+_, _<_, _≤_}
 use mathlib.Core.Path.{_≡_, refl, sym, _∙_, ap, ap₂}
 use mathlib.Core.Bool.{Bool, true, false}
 use lib.Dec.{eqb}
-use borrow.Author.Tests.{eqb-true, eqb-false, eq-eqb, ne-eqb}
+use borrow.Author.Tests.{eqb-true, eqb-false, eq-eqb, ne-eqb, le-ltb}
 use native.Mathlib.Omega.{arith}
 use Rattle.logic.specs.Pick.{pick}
 use Rattle.logic.proofs.Bools.{whichever}
 use Rattle.word.specs.Word.{valueOf, counterOf, wordOf, raisedTo, LN, RN}
-use Rattle.mirror.specs.Mirror.{mirrorValue, mirrorWord}
+use Rattle.mirror.specs.Mirror.{mirrorValue, mirrorWord, mirrorOperation}
 
 value-below : (value : ℕ) → value < 4294967296 → mirrorValue value < 4294967296
 value-below value below =
@@ -70,3 +70,13 @@ mirror-raised word to below =
     let counter : counterOf (mirrorWord word) + 1 ≡ counterOf (raisedTo word to) = omega (arith, mirror-counter word) in
     let value : to ≡ valueOf (raisedTo word to) = omega arith in
     ap₂ wordOf counter (ap mirrorValue value)
+
+-- The mirror of the mirror is the operation.
+pub operation-back : (operation : ℕ) → mirrorOperation (mirrorOperation operation) ≡ operation
+operation-back zero = refl
+operation-back (suc zero) = refl
+operation-back (suc (suc zero)) = refl
+operation-back (suc (suc (suc zero))) = refl
+operation-back (suc (suc (suc (suc more)))) =
+    let operation = suc (suc (suc (suc more))) in
+    simp (le-ltb operation 2 (omega arith), le-ltb operation 4 (omega arith))

@@ -1,6 +1,6 @@
 -- What a packed answer tells: its number and its carried order; that a promise leaves nothing open; and that a refused call changes
 -- nothing.
-use Prim.Native.Nat.{ℕ, _≤_}
+use Prim.Native.Nat.{ℕ, _+_, _*_, _≤_}
 use mathlib.Core.Path.{_≡_, sym, _∙_, ap}
 use mathlib.Core.Bool.{true}
 use mathlib.Core.List.{List}
@@ -11,7 +11,11 @@ use Rattle.party.specs.declared.Answer.{Answer}
 use Rattle.call.specs.Call.{Call}
 use Rattle.image.specs.Calls.{Done, imageOf, layOf, ImagePromise, RefusedLeaves}
 use Rattle.image.proofs.Kept.{refused-image-call-changes-nothing, refused-lay-changes-nothing, no-image-answer-is-above-19, no-lay-answer-is-above-19}
-use Rattle.pds.specs.Packed.{packedOf, pdsOrder, pdsRefused, Tells, PackedPromise}
+use Rattle.pds.specs.Packed.{packedOf, pdsNumber, pdsOrder, pdsRefused, Tells, PackedPromise}
+
+-- Whatever the answer, pds_number and pds_order are its two halves.
+pub an-answer-is-its-two-halves : (answer : ℕ) → pdsNumber answer + 4294967296 * pdsOrder answer ≡ answer
+an-answer-is-its-two-halves answer = omega arith
 
 -- The answer of a call on an image, packed, keeps the promise of the C call.
 pub packs : {wanted : Done} {answer : Answer} {left : List ℕ} {packed : ℕ}
