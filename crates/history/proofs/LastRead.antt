@@ -1,7 +1,7 @@
 -- FULL took effect at that attempt's stage 1 read and EMPTY at that attempt's stage 2 read: the party's last step that was not refused.
 use Prim.Native.Nat.{ℕ, zero, suc, _<_, _≤_}
 use mathlib.Core.Path.{_≡_, refl, sym, _∙_, ap, subst}
-use mathlib.Core.Bool.{Bool, true, false}
+use mathlib.Core.Bool.{Bool, true, false, _||_}
 use mathlib.Core.Logic.{inl, inr}
 use mathlib.Core.List.{List}
 use lib.ListN.{length, getD}
@@ -84,25 +84,34 @@ module _ (strip : List ℕ) (parties : ℕ) (calls : List Call) (n : ℕ) (withi
   abbrev party : ℕ
   party = partyOf (callIn calls n)
 
-  is : line ≡ lineOf (stateAt start (callIn calls) n) n (callIn calls n)
+  abbrev before : State
+  before = stateAt start (callIn calls) n
+
+  is : line ≡ lineOf before n (callIn calls n)
   is = the-line-of-an-entry strip parties calls n within
+
+  number-is : {number : ℕ} → line .number ≡ number → numberIn before (callIn calls n) ≡ number
+  unfolding lineOf
+  number-is e = ap (λ (l : Line). l .number) (sym is) ∙ e
+
+  -- FULL and EMPTY name the party's last look
+  names-the-look : {number : ℕ} → line .number ≡ number → (eqb number 18 || eqb number 19) ≡ true
+      → Early (recordBefore start (callIn calls) n party) → LookedAt start (callIn calls) n party (line .effect)
+  unfolding lineOf
+  names-the-look e noted early = rw (is, number-is e, noted) (looked-at strip parties (callIn calls) n party early)
 
   -- FULL: at that attempt's stage 1 read.
   pub full-took-effect-at-the-stage-1-read : line .number ≡ 18
       → LookedAt start (callIn calls) n party (line .effect) × (recordBefore start (callIn calls) (line .effect) party .stage ≡ 1)
-  unfolding lineOf
-  full-took-effect-at-the-stage-1-read number =
-      let full = ap (λ (l : Line). l .number) (sym is) ∙ number in
-      let two = a-result-ends (stateAt start (callIn calls) n) n (callIn calls n) (rw full refl) .full-at full in
-      let looked-so = looked-at strip parties (callIn calls) n party (inl two) in
-      rw (is, full) (looked-so, omega (arith, looked-so .from-stage))
+  full-took-effect-at-the-stage-1-read e =
+      let two = a-result-ends before n (callIn calls n) (rw (number-is e) refl) .full-at (number-is e) in
+      let look = names-the-look e refl (inl two) in
+      (look, omega (arith, look .from-stage))
 
   -- EMPTY: at that attempt's stage 2 read.
   pub empty-took-effect-at-the-stage-2-read : line .number ≡ 19
       → LookedAt start (callIn calls) n party (line .effect) × (recordBefore start (callIn calls) (line .effect) party .stage ≡ 2)
-  unfolding lineOf
-  empty-took-effect-at-the-stage-2-read number =
-      let empty = ap (λ (l : Line). l .number) (sym is) ∙ number in
-      let three = a-result-ends (stateAt start (callIn calls) n) n (callIn calls n) (rw empty refl) .empty-at empty in
-      let looked-so = looked-at strip parties (callIn calls) n party (inr three) in
-      rw (is, empty) (looked-so, omega (arith, looked-so .from-stage))
+  empty-took-effect-at-the-stage-2-read e =
+      let three = a-result-ends before n (callIn calls n) (rw (number-is e) refl) .empty-at (number-is e) in
+      let look = names-the-look e refl (inr three) in
+      (look, omega (arith, look .from-stage))
