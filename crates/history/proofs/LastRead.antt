@@ -40,7 +40,11 @@ module _ (strip : List ℕ) (parties : ℕ) (call : ℕ → Call) where
   abbrev at : ℕ → State
   at n = stateAt first call n
 
-  looked-at : (n i : ℕ) → Early (recordBefore first call n i) → LookedAt first call n i (getD (at n .looks) i 0)
+  -- e is the last look of party i before entry n
+  abbrev Looked : (n i e : ℕ) → Type 0
+  Looked n i e = LookedAt first call n i e (recordBefore first call e i .stage)
+
+  looked-at : (n i : ℕ) → Early (recordBefore first call n i) → Looked n i (getD (at n .looks) i 0)
   unfolding stateAt
   looked-at zero i early = absurd (let seen = booked-at strip parties call 0 .looked-so i (second (recordBefore first call 0 i) early) in omega arith)
   looked-at (suc n) i early = go (since (at n) n (call n) i early) (looked-at n i)
@@ -49,7 +53,8 @@ module _ (strip : List ℕ) (parties : ℕ) (call : ℕ → Call) where
       look-is = look-after (at n) n (booked-at strip parties call n .looks-size) (call n) i
 
       go : Since (at n) (call n) i (recordBefore first call n i) (getD (leaves (at n) n (call n) .table) i idle)
-          → (Early (recordBefore first call n i) → LookedAt first call n i (getD (at n .looks) i 0)) → LookedAt first call (suc n) i (getD (leaves (at n) n (call n) .looks) i 0)
+          → (Early (recordBefore first call n i) → Looked n i (getD (at n .looks) i 0))
+          → Looked (suc n) i (getD (leaves (at n) n (call n) .looks) i 0)
       go (Since.now looks from) before =
           let each = both (looked (at n) (call n) (numberIn (at n) (call n))) (eqb i (partyOf (call n))) looks in
           rw (look-is, looks)
@@ -57,7 +62,8 @@ module _ (strip : List ℕ) (parties : ℕ) (call : ℕ → Call) where
             before = omega arith;
             own = sym (eqb-true i (partyOf (call n)) (each .1));
             steps = ap isStep (look-is-a-step (at n) (call n) (each .0) .1);
-            from-stage = from;
+            at-stage = refl;
+            now-stage = from;
             refused-since = λ m after early-m. absurd (omega arith);
           })
       go (Since.still same refused) before =
@@ -67,7 +73,8 @@ module _ (strip : List ℕ) (parties : ℕ) (call : ℕ → Call) where
             before = omega (arith, was .before);
             own = was .own;
             steps = was .steps;
-            from-stage = ap (λ (r : Record). r .stage) same ∙ was .from-stage;
+            at-stage = refl;
+            now-stage = ap (λ (r : Record). r .stage) same ∙ was .now-stage;
             refused-since =
                 one-longer (λ (m : ℕ). partyOf (call m) ≡ i → isRefusal (numberIn (at m) (call m)) ≡ true) (getD (at n .looks) i 0) n
                 (was .refused-since) refused;
@@ -94,24 +101,23 @@ module _ (strip : List ℕ) (parties : ℕ) (calls : List Call) (n : ℕ) (withi
   unfolding lineOf
   number-is e = ap (λ (l : Line). l .number) (sym is) ∙ e
 
-  -- FULL and EMPTY name the party's last look
-  names-the-look : {number : ℕ} → line .number ≡ number → (eqb number 18 || eqb number 19) ≡ true
-      → Early (recordBefore start (callIn calls) n party) → LookedAt start (callIn calls) n party (line .effect)
+  -- FULL and EMPTY name the party's last look, at the stage before
+  names-the-look : {number : ℕ} (stage : ℕ) → line .number ≡ number → (eqb number 18 || eqb number 19) ≡ true
+      → Early (recordBefore start (callIn calls) n party) → recordBefore start (callIn calls) n party .stage ≡ suc stage
+      → LookedAt start (callIn calls) n party (line .effect) stage
   unfolding lineOf
-  names-the-look e noted early = rw (is, number-is e, noted) (looked-at strip parties (callIn calls) n party early)
+  names-the-look stage e noted early now =
+      let look = looked-at strip parties (callIn calls) n party early in
+      rw (is, number-is e, noted) (subst (LookedAt start (callIn calls) n party _) (omega (arith, look .now-stage)) look)
 
   -- FULL: at that attempt's stage 1 read.
-  pub full-took-effect-at-the-stage-1-read : line .number ≡ 18
-      → LookedAt start (callIn calls) n party (line .effect) × (recordBefore start (callIn calls) (line .effect) party .stage ≡ 1)
+  pub full-took-effect-at-the-stage-1-read : line .number ≡ 18 → LookedAt start (callIn calls) n party (line .effect) 1
   full-took-effect-at-the-stage-1-read e =
       let two = a-result-ends before n (callIn calls n) (rw (number-is e) refl) .full-at (number-is e) in
-      let look = names-the-look e refl (inl two) in
-      (look, omega (arith, look .from-stage))
+      names-the-look 1 e refl (inl two) two
 
   -- EMPTY: at that attempt's stage 2 read.
-  pub empty-took-effect-at-the-stage-2-read : line .number ≡ 19
-      → LookedAt start (callIn calls) n party (line .effect) × (recordBefore start (callIn calls) (line .effect) party .stage ≡ 2)
+  pub empty-took-effect-at-the-stage-2-read : line .number ≡ 19 → LookedAt start (callIn calls) n party (line .effect) 2
   empty-took-effect-at-the-stage-2-read e =
       let three = a-result-ends before n (callIn calls n) (rw (number-is e) refl) .empty-at (number-is e) in
-      let look = names-the-look e refl (inr three) in
-      (look, omega (arith, look .from-stage))
+      names-the-look 2 e refl (inr three) three

@@ -21,7 +21,7 @@ use Rattle.history.proofs.Results.{a-result-ends}
 use Rattle.history.proofs.Since.{Since, Early, since, refused-unlooked}
 
 -- of a party that has looked, the last call that was not refused is the last look
-pub record LooksTold (s : State) (last : List ℕ) : Type 0 where
+record LooksTold (s : State) (last : List ℕ) : Type 0 where
   pub looks-size : length (s .looks) ≡ length (s .table)
   pub last-size : length last ≡ length (s .table)
   pub same : (i : ℕ) → Early (getD (s .table) i idle) → getD last i 0 ≡ getD (s .looks) i 0
@@ -89,7 +89,7 @@ told-from : (calls : List Call) (s : State) (entry : ℕ) (last : List ℕ) → 
 unfolding effectsFrom linesFrom lineOf
 told-from [] s entry last tells = refl
 told-from (call ∷ calls) s entry last tells =
-    ap₂ (λ (e : ℕ) (es : List ℕ). e ∷ es) (sym (effect-is-told s entry call last tells))
+    ap₂ _∷_ (sym (effect-is-told s entry call last tells))
     (told-from calls (leaves s entry call) (suc entry) (lastAfter last entry call (numberIn s call)) (tells-next s entry call last tells))
 
 -- What a run's lines say of effects is what the calls and the numbers tell.

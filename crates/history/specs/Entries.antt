@@ -23,11 +23,12 @@ module _ (first : State) (call : ℕ → Call) where
   abbrev pub recordBefore : (n party : ℕ) → Record
   recordBefore n party = getD (stateAt n .table) party idle
 
-  -- e is the entry of a look of a party before entry n: a step of its own, from the stage before the one where it is now; and what else
-  -- it was called for since was refused
-  pub record LookedAt (n party e : ℕ) : Type 0 where
+  -- e is the entry of a look of a party before entry n: a step of its own, at this stage, which is the one before the stage where it is
+  -- now; and what else it was called for since was refused
+  pub record LookedAt (n party e stage : ℕ) : Type 0 where
     pub before : e < n
     pub own : partyOf (call e) ≡ party
     pub steps : isStep (call e) ≡ true
-    pub from-stage : recordBefore n party .stage ≡ suc (recordBefore e party .stage)
+    pub at-stage : recordBefore e party .stage ≡ stage
+    pub now-stage : recordBefore n party .stage ≡ suc stage
     pub refused-since : (m : ℕ) → e < m → m < n → partyOf (call m) ≡ party → isRefusal (numberIn (stateAt m) (call m)) ≡ true

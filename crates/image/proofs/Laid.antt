@@ -5,11 +5,12 @@ use mathlib.Core.Bool.{true, false, not}
 use mathlib.Core.List.{List}
 use lib.ListN.{length, replicate}
 use lib.Seq.{sets, length-sets}
-use lib.Dec.{leb}
+use lib.Dec.{eqb, leb}
 use borrow.Author.Tests.{leb-true, not-false}
 use Rattle.logic.proofs.Bools.{both, passed}
 use Rattle.party.specs.declared.Answer.the-variants.{GoesOn, Refused}
 use Rattle.party.proofs.Cleared.{max-within}
+use Rattle.header.specs.Header.{countsFit}
 use Rattle.strip.specs.Lay.{rightsOf}
 use Rattle.format.specs.Format.{lengthOf, sizesFit}
 use Rattle.format.specs.Spelling.{wordBytes}
@@ -21,6 +22,7 @@ use Rattle.format.proofs.Laying.{fresh-laid}
 
 pub record Layable (bytes max parties divide : ℕ) : Type 0 where
   pub exact : bytes ≡ lengthOf 1 max parties
+  pub counts-fit : countsFit max parties ≡ true
   pub max-small : max ≤ 4094
   pub parties-few : parties ≤ 16
   pub divided : divide ≤ max
@@ -33,6 +35,7 @@ layable bytes max parties divide e =
     let fits = sized 1 bytes max parties (not-false _ (past1 .0)) in
     record {
       exact = fits .exact;
+      counts-fit = both (countsFit max parties) (eqb bytes (lengthOf 1 max parties)) (not-false _ (past1 .0)) .0;
       max-small = max-within max (fits .max-fits) .1;
       parties-few = leb-true parties 16 (both (leb 1 parties) (leb parties 16) (fits .parties-fit) .1);
       divided = leb-true divide max (not-false _ (past8 .0));

@@ -10,7 +10,6 @@ use Rattle.logic.proofs.Lists.{all-the-same}
 use Rattle.little.specs.Bytes.{numberAt}
 use Rattle.little.proofs.Digits.{zeros-spell-0}
 use Rattle.record.specs.Record.{idle}
-use Rattle.record.specs.declared.Record.{Record}
 use Rattle.plain.specs.Plain.{Plain}
 use Rattle.header.specs.Header.{versionAt, partiesAt}
 use Rattle.format.specs.Format.{recordsIn, partyPlace}
@@ -41,7 +40,7 @@ zero-records : (version count : ℕ) (l : List ℕ) (at : ℕ) → ZerosFrom l a
 unfolding recordsFrom
 zero-records version zero l at zeros = refl
 zero-records version (suc count) l at zeros =
-    ap₂ (λ (r : Record) (rest : List Record). r ∷ rest) (zero-record version l at zeros)
+    ap₂ _∷_ (zero-record version l at zeros)
     (zero-records version count l (at + 32) (later l at 32 zeros))
 
 -- An image at the beginning is intact, and spells idle parties.

@@ -38,7 +38,7 @@ calls-in-turn-are-a-run (call ∷ calls) image [] last none = absurd none
 calls-in-turn-are-a-run (call ∷ calls) image (answer ∷ answers) last (next, kept, turn) =
     let rest = calls-in-turn-are-a-run calls (imageOf image call .image) answers last
     (subst (λ (lent : List ℕ). InTurn lent calls answers last) (kept .bytes) turn) in
-    (ap₂ (λ (n : ℕ) (ns : List ℕ). n ∷ ns) (kept .packed) (rest .0), rest .1)
+    (ap₂ _∷_ (kept .packed) (rest .0), rest .1)
 
 -- and a run on the image is calls in turn.
 pub a-run-is-calls-in-turn : (calls : List Call) (image : List ℕ)
@@ -55,7 +55,7 @@ reads-back : (read : ℕ → ℕ) (of : Answer → ℕ)
 unfolding answersOn
 reads-back read of reads [] image = refl
 reads-back read of reads (call ∷ calls) image =
-    ap₂ (λ (n : ℕ) (ns : List ℕ). n ∷ ns) (reads image call) (reads-back read of reads calls (imageOf image call .image))
+    ap₂ _∷_ (reads image call) (reads-back read of reads calls (imageOf image call .image))
 
 told : (image : List ℕ) (call : Call) → Tells (imageOf image call) (packedOf (imageOf image call .answer))
 told image call =
@@ -72,7 +72,7 @@ lines-are-columns (line ∷ lines) [] numbers orders = absurd (omega (arith, ap 
 lines-are-columns (line ∷ lines) (answer ∷ answers) numbers orders =
     let first : List ℕ → ℕ = λ l. getD l 0 0 in
     let with : ℕ → ℕ → Line = λ number carried. record { number = number; carried = carried; effect = line .effect } in
-    ap₂ (λ (l : Line) (ls : List Line). l ∷ ls) (ap₂ with (ap first numbers) (ap first orders))
+    ap₂ _∷_ (ap₂ with (ap first numbers) (ap first orders))
     (lines-are-columns lines answers (ap (drop 1) numbers) (ap (drop 1) orders))
 
 -- Demand 3 of the C calls, from any image at the beginning of a run. That calls fit says that an order is a uint32_t.

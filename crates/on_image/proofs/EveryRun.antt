@@ -44,8 +44,8 @@ a-run-on-an-image-is-the-run-of-what-it-spells (call ∷ calls) image s entry in
     (strip-after image intact call narrow ∙ ap (λ (l : Left). l .strip) same)
     (table-after image intact call narrow ∙ ap (λ (l : Left). l .table) same) in
     record {
-      numbers = ap₂ (λ (n : ℕ) (ns : List ℕ). n ∷ ns) (ap numberOf answer) (rest .numbers);
-      carried = ap₂ (λ (n : ℕ) (ns : List ℕ). n ∷ ns) (ap carriedOf answer) (rest .carried);
+      numbers = ap₂ _∷_ (ap numberOf answer) (rest .numbers);
+      carried = ap₂ _∷_ (ap carriedOf answer) (rest .carried);
       strip = rest .strip;
       table = rest .table;
       intact = rest .intact;

@@ -4,7 +4,7 @@ use mathlib.Core.Path.{_≡_, refl, sym, _∙_, ap}
 use mathlib.Core.Bool.{true}
 use mathlib.Core.List.{List, _∷_, _++_}
 use lib.ListN.{length, replicate, length-append, length-replicate, drop}
-use lib.Seq.{sets, drop-append-add, drop-append-seam}
+use lib.Seq.{sets, length-sets, drop-append-add, drop-append-seam}
 use lib.Dec.{leb}
 use borrow.Author.Tests.{eqb-true, eq-eqb, leb-true, le-ltb}
 use native.Mathlib.Omega.{arith}
@@ -111,9 +111,7 @@ module _ (version max parties divide : ℕ) (known : isKnown version ≡ true) (
       ap (λ (at : ℕ). sets blank at words) (sym (length-header version max parties)) ∙ middle-run header under zeros words same in
       let parts : image ≡ withParts wordPart blank wordsBase (freshStrip max divide) =
       sym laid ∙ words-laid-are-parts (freshStrip max divide) blank wordsBase in
-      let room : length blank ≡ lengthOf version max parties =
-      length-append header (under ++ zeros) ∙ rw (length-append under zeros)
-      (omega (arith, length-header version max parties, long-words, same, length-replicate {A = ℕ} (32 * parties) 0)) in
+      let room : length blank ≡ lengthOf version max parties = sym (length-sets blank wordsBase words) ∙ ap length laid ∙ exact in
       ap (λ (count : ℕ). wordsFrom image wordsBase count) (ap (λ (n : ℕ). n + 2) max-is ∙ sym (fresh-length max divide inside))
       ∙ words-are-parts (length (freshStrip max divide)) image wordsBase
       ∙ ap (λ (l : List ℕ). partsFrom wordPart l wordsBase (length (freshStrip max divide))) parts

@@ -1,20 +1,18 @@
 -- What lay leaves where it is not refused, and what pds_lay leaves where it answers 0: an image at the beginning of a run.
-use Prim.Native.Nat.{ℕ, _≤_}
+use Prim.Native.Nat.{ℕ}
 use mathlib.Core.Path.{_≡_, refl}
 use mathlib.Core.Bool.{Bool, true, false, not}
 use mathlib.Core.List.{List}
 use lib.ListN.{length, replicate}
-use lib.Dec.{eqb, leb}
-use borrow.Author.Tests.{eqb-true, leb-true, not-false}
+use lib.Dec.{eqb}
+use borrow.Author.Tests.{eqb-true}
 use native.Mathlib.Omega.{arith}
-use Rattle.logic.proofs.Bools.{both, passed}
 use Rattle.record.specs.Record.{idle}
 use Rattle.plain.specs.Plain.{freshPlain}
 use Rattle.strip.specs.Lay.{freshStrip}
-use Rattle.header.specs.Header.{countsFit}
-use Rattle.format.specs.Format.{lengthOf, sizesFit}
 use Rattle.format.specs.Spelling.{stripOf, tableOf}
 use Rattle.image.specs.Calls.{layRefusal, layOf}
+use Rattle.image.proofs.Laid.{layable}
 use Rattle.pds.specs.Packed.{PackedPromise}
 use Rattle.on_image.specs.Intact.{Intact}
 use Rattle.on_image.specs.Run.{Begins}
@@ -24,20 +22,11 @@ module _ (bytes : List ℕ) (max parties divide : ℕ) where
   abbrev number : ℕ
   number = layRefusal (length bytes) max parties divide
 
-  fits : number ≡ 0 → (countsFit max parties ≡ true) × (divide ≤ max)
-  unfolding layRefusal
-  fits none =
-      let sized = passed (not (sizesFit 1 (length bytes) max parties)) 0 _ none in
-      let divided = passed (not (leb divide max)) 7 0 (sized .1) in (
-        both (countsFit max parties) (eqb (length bytes) (lengthOf 1 max parties)) (not-false _ (sized .0)) .0,
-        leb-true divide max (not-false _ (divided .0)),
-      )
-
   pub what-lay-leaves-begins : number ≡ 0 → Begins (layOf bytes max parties divide .image) (freshPlain max divide) parties
   unfolding layOf
   what-lay-leaves-begins none =
-      let each = fits none in
-      rw none (a-fresh-image-begins 1 max parties divide refl (each .0) (each .1))
+      let fits = layable (length bytes) max parties divide none in
+      rw none (a-fresh-image-begins 1 max parties divide refl (fits .counts-fit) (fits .divided))
 
   -- It has a header that is taken and zeros where they must be, and spells the fresh strip and idle parties.
   pub what-lay-leaves-spells-a-fresh-strip : number ≡ 0 →
@@ -45,8 +34,8 @@ module _ (bytes : List ℕ) (max parties divide : ℕ) where
       Intact image × (stripOf image ≡ freshStrip max divide) × (tableOf image ≡ replicate parties idle)
   unfolding layOf
   what-lay-leaves-spells-a-fresh-strip none =
-      let each = fits none in
-      rw none (a-fresh-image-spells-a-fresh-strip 1 max parties divide refl (each .0) (each .1))
+      let fits = layable (length bytes) max parties divide none in
+      rw none (a-fresh-image-spells-a-fresh-strip 1 max parties divide refl (fits .counts-fit) (fits .divided))
 
   -- an answer 0 is no refusal
   not-refused : (image : List ℕ) → PackedPromise (layOf bytes max parties divide) 0 image → number ≡ 0

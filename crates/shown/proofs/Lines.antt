@@ -101,5 +101,5 @@ pub lines-are-shown : (s : State) (entry : ℕ) (calls : List Call) → Every Bo
 unfolding rowsFrom linesFrom
 lines-are-shown s entry [] bounded = refl
 lines-are-shown s entry (call ∷ calls) bounded =
-    ap₂ (λ (line : Line) (lines : List Line). line ∷ lines) (line-is-shown entry call (lineOf s entry call) (bounded 0 (omega arith)))
+    ap₂ _∷_ (line-is-shown entry call (lineOf s entry call) (bounded 0 (omega arith)))
     (lines-are-shown (leaves s entry call) (suc entry) calls (λ i within. bounded (suc i) (omega arith)))
