@@ -81,19 +81,17 @@ impl Run {
         }
         let max = self.max as u64;
         let number = entry.number;
-        match entry.act {
+        let record = &mut self.table[usize::from(entry.party)];
+        let (answer, after) = match entry.act {
             START => {
                 let operation = u64::from(entry.operation);
-                self.twin
-                    .table_start(max, &mut self.table, party, operation, number)
+                self.twin.start(max, *record, operation, number)
             }
-            STEP => {
-                let hint = u64::from(number);
-                self.twin
-                    .table_step(&mut self.strip, &mut self.table, party, hint)
-            }
-            _ => self.twin.table_withdraw(max, &mut self.table, party),
-        }
+            STEP => self.twin.step(&mut self.strip, *record, number.into()),
+            _ => self.twin.withdraw(max, *record),
+        };
+        *record = after;
+        answer
     }
 
     /// FULL and EMPTY took effect at the party's own step just before the answer.

@@ -1,13 +1,23 @@
-//! The same calls over a lent table of records: only the named one is touched.
+//! The same calls on lent records: one lent alone, or the numbered one of a lent
+//! table. What the call by value leaves is stored where the record stood.
 
 use crate::answer::*;
 use crate::fault::{Fault, Twin};
 use crate::record::Record;
-use crate::strip::{length_fits, max_fits};
+use crate::step::After;
+use crate::strip::max_fits;
 use crate::word::Word;
 
 pub fn count_fits(parties: u64) -> bool {
     (1..=16).contains(&parties)
+}
+
+/// What a call on a table is given to find the record by.
+struct Named {
+    /// As it was handed over, or as the strip's length has it.
+    max: u64,
+    bad_field: bool,
+    party: u64,
 }
 
 impl Twin {
@@ -26,6 +36,21 @@ impl Twin {
         None
     }
 
+    pub fn record_start(self, max: u64, record: &mut Record, operation: u64, v: u32) -> Answer {
+        let after = self.start(max, *record, operation, v);
+        store(record, after)
+    }
+
+    pub fn record_withdraw(self, max: u64, record: &mut Record) -> Answer {
+        let after = self.withdraw(max, *record);
+        store(record, after)
+    }
+
+    pub fn record_step(self, strip: &mut [Word], record: &mut Record, hint: u64) -> Answer {
+        let after = self.step(strip, *record, hint);
+        store(record, after)
+    }
+
     pub fn table_start(
         self,
         max: u64,
@@ -34,27 +59,21 @@ impl Twin {
         operation: u64,
         v: u32,
     ) -> Answer {
-        if !max_fits(max) || !count_fits(table.len() as u64) {
-            return Answer::of(BAD_LENGTH);
-        }
-        if let Some(number) = self.name_refusal(operation > 3, party, table.len()) {
-            return Answer::of(number);
-        }
-        let (answer, after) = self.start(max, table[party as usize], operation, v);
-        table[party as usize] = after;
-        answer
+        let named = Named {
+            max,
+            bad_field: operation > 3,
+            party,
+        };
+        self.on_named(table, &named, |r| self.start(max, r, operation, v))
     }
 
     pub fn table_withdraw(self, max: u64, table: &mut [Record], party: u64) -> Answer {
-        if !max_fits(max) || !count_fits(table.len() as u64) {
-            return Answer::of(BAD_LENGTH);
-        }
-        if let Some(number) = self.name_refusal(false, party, table.len()) {
-            return Answer::of(number);
-        }
-        let (answer, after) = self.withdraw(max, table[party as usize]);
-        table[party as usize] = after;
-        answer
+        let named = Named {
+            max,
+            bad_field: false,
+            party,
+        };
+        self.on_named(table, &named, |r| self.withdraw(max, r))
     }
 
     pub fn table_step(
@@ -64,14 +83,37 @@ impl Twin {
         party: u64,
         hint: u64,
     ) -> Answer {
-        if !length_fits(strip.len()) || !count_fits(table.len() as u64) {
+        let named = Named {
+            max: strip.len().saturating_sub(2) as u64,
+            bad_field: false,
+            party,
+        };
+        self.on_named(table, &named, |r| self.step(strip, r, hint))
+    }
+
+    /// The checks that come before the record's own, then the call on it.
+    fn on_named<F>(self, table: &mut [Record], named: &Named, call: F) -> Answer
+    where
+        F: FnOnce(Record) -> After,
+    {
+        if !max_fits(named.max) || !count_fits(table.len() as u64) {
             return Answer::of(BAD_LENGTH);
         }
-        if let Some(number) = self.name_refusal(false, party, table.len()) {
+        let refusal = self.name_refusal(named.bad_field, named.party, table.len());
+        if let Some(number) = refusal {
             return Answer::of(number);
         }
-        let (answer, after) = self.step(strip, table[party as usize], hint);
-        table[party as usize] = after;
-        answer
+        let record = &mut table[named.party as usize];
+        let after = call(*record);
+        store(record, after)
     }
+}
+
+/// A refusal writes nothing.
+fn store(record: &mut Record, after: After) -> Answer {
+    let (answer, after) = after;
+    if !answer.is_refusal() {
+        *record = after;
+    }
+    answer
 }
