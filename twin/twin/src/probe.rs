@@ -6,6 +6,7 @@ use crate::answer::Answer;
 use crate::bytes::{from_hex, to_hex};
 use crate::fault::Twin;
 use crate::record::Record;
+use crate::step::After;
 use crate::word::Word;
 
 /// One more than a strip and a table may have: no more is lent.
@@ -43,6 +44,15 @@ impl<'a> Fields<'a> {
         })
     }
 
+    /// Records after their count.
+    fn table(&mut self) -> Option<Vec<Record>> {
+        let parties: u64 = self.number()?;
+        if parties > MOST_PARTIES {
+            return None;
+        }
+        (0..parties).map(|_| self.record()).collect()
+    }
+
     fn words(&mut self) -> Option<Vec<Word>> {
         let mut words = Vec::new();
         while !self.rest.is_empty() {
@@ -76,17 +86,38 @@ pub fn join_record(r: &Record) -> String {
     )
 }
 
-fn join_answer(answer: Answer, record: &Record) -> String {
-    format!(
-        "{} {}{}",
-        answer.number,
-        answer.carried,
-        join_record(record)
-    )
+pub fn join_table(table: &[Record]) -> String {
+    table.iter().map(join_record).collect()
+}
+
+fn join_answer(answer: Answer, table: &[Record]) -> String {
+    let records = join_table(table);
+    format!("{} {}{}", answer.number, answer.carried, records)
 }
 
 fn join_image(answer: Answer, image: &[u8]) -> String {
     format!("{} {}", answer.packed(), to_hex(image))
+}
+
+type Start = fn(Twin, u64, Record, u64, u32) -> After;
+type Withdraw = fn(Twin, u64, Record) -> After;
+type Step = fn(Twin, &mut [Word], Record, u64) -> After;
+
+// A record lent alone, in the form of the call by value: their lines are alike.
+
+fn start_lent(twin: Twin, max: u64, mut record: Record, operation: u64, v: u32) -> After {
+    let answer = twin.record_start(max, &mut record, operation, v);
+    (answer, record)
+}
+
+fn withdraw_lent(twin: Twin, max: u64, mut record: Record) -> After {
+    let answer = twin.record_withdraw(max, &mut record);
+    (answer, record)
+}
+
+fn step_lent(twin: Twin, strip: &mut [Word], mut record: Record, hint: u64) -> After {
+    let answer = twin.record_step(strip, &mut record, hint);
+    (answer, record)
 }
 
 impl Twin {
@@ -101,9 +132,15 @@ impl Twin {
             "lay" => self.probe_lay(fields),
             "find" => self.probe_find(fields),
             "measure" => self.probe_measure(fields),
-            "start" => self.probe_start(fields),
-            "withdraw" => self.probe_withdraw(fields),
-            "step" => self.probe_step(fields),
+            "start" => self.probe_start(fields, Twin::start),
+            "withdraw" => self.probe_withdraw(fields, Twin::withdraw),
+            "step" => self.probe_step(fields, Twin::step),
+            "start-record" => self.probe_start(fields, start_lent),
+            "withdraw-record" => self.probe_withdraw(fields, withdraw_lent),
+            "step-record" => self.probe_step(fields, step_lent),
+            "start-in" => self.probe_start_in(fields),
+            "withdraw-in" => self.probe_withdraw_in(fields),
+            "step-in" => self.probe_step_in(fields),
             "read" => self.probe_read(fields),
             "write" => self.probe_write(fields),
             "image-lay" => self.probe_image_lay(fields),
@@ -138,30 +175,59 @@ impl Twin {
         Some(format!("{} {} {} {}", m.number, m.left, m.orders, m.right))
     }
 
-    fn probe_start(self, fields: &mut Fields) -> Option<String> {
+    fn probe_start(self, fields: &mut Fields, call: Start) -> Option<String> {
         let max = fields.number()?;
         let record = fields.record()?;
         let operation = fields.number()?;
         let order = fields.number()?;
         fields.end()?;
-        let (answer, after) = self.start(max, record, operation, order);
-        Some(join_answer(answer, &after))
+        let (answer, after) = call(self, max, record, operation, order);
+        Some(join_answer(answer, &[after]))
     }
 
-    fn probe_withdraw(self, fields: &mut Fields) -> Option<String> {
+    fn probe_withdraw(self, fields: &mut Fields, call: Withdraw) -> Option<String> {
         let max = fields.number()?;
         let record = fields.record()?;
         fields.end()?;
-        let (answer, after) = self.withdraw(max, record);
-        Some(join_answer(answer, &after))
+        let (answer, after) = call(self, max, record);
+        Some(join_answer(answer, &[after]))
     }
 
-    fn probe_step(self, fields: &mut Fields) -> Option<String> {
+    fn probe_step(self, fields: &mut Fields, call: Step) -> Option<String> {
         let hint = fields.number()?;
         let record = fields.record()?;
         let mut strip = fields.words()?;
-        let (answer, after) = self.step(&mut strip, record, hint);
-        Some(join_answer(answer, &after) + &join_words(&strip))
+        let (answer, after) = call(self, &mut strip, record, hint);
+        Some(join_answer(answer, &[after]) + &join_words(&strip))
+    }
+
+    fn probe_start_in(self, fields: &mut Fields) -> Option<String> {
+        let max = fields.number()?;
+        let party = fields.number()?;
+        let operation = fields.number()?;
+        let order = fields.number()?;
+        let mut table = fields.table()?;
+        fields.end()?;
+        let answer = self.table_start(max, &mut table, party, operation, order);
+        Some(join_answer(answer, &table))
+    }
+
+    fn probe_withdraw_in(self, fields: &mut Fields) -> Option<String> {
+        let max = fields.number()?;
+        let party = fields.number()?;
+        let mut table = fields.table()?;
+        fields.end()?;
+        let answer = self.table_withdraw(max, &mut table, party);
+        Some(join_answer(answer, &table))
+    }
+
+    fn probe_step_in(self, fields: &mut Fields) -> Option<String> {
+        let party = fields.number()?;
+        let hint = fields.number()?;
+        let mut table = fields.table()?;
+        let mut strip = fields.words()?;
+        let answer = self.table_step(&mut strip, &mut table, party, hint);
+        Some(join_answer(answer, &table) + &join_words(&strip))
     }
 
     fn probe_read(self, fields: &mut Fields) -> Option<String> {
@@ -175,26 +241,20 @@ impl Twin {
         let mut strip = vec![0; words as usize];
         let mut table = vec![Record::default(); parties as usize];
         let answer = self.image_read(&image, &mut strip, &mut table);
-        let records: String = table.iter().map(join_record).collect();
-        Some(format!(
-            "{}{}{}",
-            answer.number,
-            join_words(&strip),
-            records
-        ))
+        let words = join_words(&strip);
+        Some(format!("{}{}{}", answer.number, words, join_table(&table)))
     }
 
     fn probe_write(self, fields: &mut Fields) -> Option<String> {
         let words: u64 = fields.number()?;
         let strip: Option<Vec<Word>> = (0..words).map(|_| fields.number()).collect();
-        let parties: u64 = fields.number()?;
-        let table: Option<Vec<Record>> = (0..parties).map(|_| fields.record()).collect();
+        let table = fields.table()?;
         let mut image = fields.hex()?;
         fields.end()?;
-        if words > MOST_WORDS || parties > MOST_PARTIES {
+        if words > MOST_WORDS {
             return None;
         }
-        let answer = self.image_write(&mut image, &strip?, &table?);
+        let answer = self.image_write(&mut image, &strip?, &table);
         Some(format!("{} {}", answer.number, to_hex(&image)))
     }
 
