@@ -7,6 +7,7 @@
 use crate::fault::{Fault, Twin, FAULTS};
 use crate::generate::probe::{image_line, read_line, strip_line, write_line};
 use crate::generate::schedule::{file, KINDS};
+use crate::generate::table::table_line;
 use crate::listing;
 use crate::random::Random;
 use std::collections::BTreeMap;
@@ -20,6 +21,8 @@ pub enum Door {
     Schedules,
     /// The probe's lines of strips and records.
     Strips,
+    /// The probe's lines of lent records.
+    Tables,
     /// The probe's lines of calls on images.
     Images,
     /// The probe's lines that read whole images.
@@ -33,6 +36,7 @@ impl Door {
         match name {
             "schedules" => Some(Door::Schedules),
             "strips" => Some(Door::Strips),
+            "tables" => Some(Door::Tables),
             "images" => Some(Door::Images),
             "reads" => Some(Door::Reads),
             "writes" => Some(Door::Writes),
@@ -45,6 +49,7 @@ impl Door {
         match self {
             Door::Schedules => &[0, 1, 2, 3, 5, 6, 7, 8, 11, 16, 17, 18, 19],
             Door::Strips => &[0, 1, 4, 5, 6, 7, 8, 9, 10, 11, 12, 16, 17, 18, 19],
+            Door::Tables => &[0, 1, 3, 4, 5, 6, 7, 8, 9, 11, 16, 17, 18, 19],
             Door::Images => &[0, 1, 2, 3, 4, 5, 6, 7, 8, 9, 11, 16, 17, 18, 19],
             Door::Reads => &[0, 1, 2, 4],
             Door::Writes => &[0, 1, 4],
@@ -57,15 +62,15 @@ impl Door {
         use Fault::*;
         match fault {
             EmptyAtSecondLook | FullAtAnswer | RefusedEntryCounted | LongFileCut => &[Schedules],
-            LostSwapNine | DirtyIdleIsSix => &[Strips, Images],
-            ElevenAfterThree => &[Schedules, Images],
+            LostSwapNine | DirtyIdleIsSix => &[Strips, Tables, Images],
+            ElevenAfterThree => &[Schedules, Tables, Images],
             VersionNotCompared => &[Schedules, Images, Reads],
             SpareBytesUnchecked => &[Images, Reads],
             FindFromFarEnd | ReservedIsOrder => &[Strips],
             FirstRecordChecked => &[Reads, Writes],
             StripBeforeCheck => &[Reads],
             SpareBytesLeft => &[Writes],
-            _ => &[Schedules, Strips, Images],
+            _ => &[Schedules, Strips, Tables, Images],
         }
     }
 
@@ -198,6 +203,7 @@ impl Program<'_> {
     /// `count` lines for a probe, in one run of the program.
     pub fn lines(&self, door: Door, seed: u64, count: usize) -> Report {
         let make = match door {
+            Door::Tables => table_line,
             Door::Images => image_line,
             Door::Reads => read_line,
             Door::Writes => write_line,

@@ -32,6 +32,7 @@ fn agrees(door: Door, line: &str, seed: u64, count: usize) {
 fn a_right_program_passes() {
     agrees(Door::Schedules, RUN, seed_or(61), 250);
     agrees(Door::Strips, PROBE, seed_or(62), 10_000);
+    agrees(Door::Tables, PROBE, seed_or(69), 6000);
     agrees(Door::Images, PROBE, seed_or(63), 10_000);
     agrees(Door::Reads, PROBE, seed_or(67), 2000);
     agrees(Door::Writes, PROBE, seed_or(68), 2000);

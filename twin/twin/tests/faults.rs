@@ -7,6 +7,7 @@ use twin::fault::FAULTS;
 use twin::generate::image::{any, call};
 use twin::generate::probe::{read_line, strip_line, write_line};
 use twin::generate::schedule::{file, KINDS};
+use twin::generate::table::table_line;
 use twin::random::{seed_or, Random};
 use twin::{Fault, Twin};
 
@@ -47,7 +48,7 @@ fn show_all(seed: u64) -> Vec<Shown> {
             shown[i].calls += usize::from(play(Twin::wrong(*fault)) != right);
         }
     }
-    for make in [strip_line, read_line, write_line].repeat(LINES) {
+    for make in [strip_line, table_line, read_line, write_line].repeat(LINES) {
         let line = make(&mut random);
         let right = Twin::faithful().probe(&line);
         for (i, (fault, _)) in FAULTS.iter().enumerate() {
@@ -65,7 +66,7 @@ fn each_wrong_twin_shows() {
         seed,
         4 * FILES,
         CALLS,
-        3 * LINES
+        4 * LINES
     );
     let shown = show_all(seed);
     for ((fault, name), shown) in FAULTS.iter().zip(&shown) {
@@ -73,7 +74,7 @@ fn each_wrong_twin_shows() {
             "{:24} {:5} files {:5} calls {:5} lines",
             name, shown.files, shown.calls, shown.lines
         );
-        let at_the_probe = [Door::Strips, Door::Reads, Door::Writes];
+        let at_the_probe = [Door::Strips, Door::Tables, Door::Reads, Door::Writes];
         if at_the_probe.iter().any(|door| door.shows(*fault)) {
             assert!(shown.lines > 0, "{} does not show", name);
         }

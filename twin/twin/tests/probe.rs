@@ -4,6 +4,7 @@
 
 use std::collections::BTreeMap;
 use twin::generate::probe::{image_line, read_line, strip_line, write_line};
+use twin::generate::table::table_line;
 use twin::random::{seed_or, Random};
 use twin::Twin;
 
@@ -187,6 +188,13 @@ fn every_number_occurs_at_the_strip_door() {
     let numbers = count(strip_line, seed_or(41), 20_000);
     let seen: Vec<u32> = numbers.keys().copied().collect();
     assert_eq!(seen, [0, 1, 4, 5, 6, 7, 8, 9, 10, 11, 12, 16, 17, 18, 19]);
+}
+
+#[test]
+fn every_number_occurs_at_the_table_door() {
+    let numbers = count(table_line, seed_or(45), 6000);
+    let seen: Vec<u32> = numbers.keys().copied().collect();
+    assert_eq!(seen, [0, 1, 3, 4, 5, 6, 7, 8, 9, 11, 16, 17, 18, 19]);
 }
 
 #[test]

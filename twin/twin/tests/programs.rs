@@ -97,6 +97,7 @@ fn twin_gen_repeats_itself() {
         ("wild", 7),
         ("damaged", 7),
         ("probe-strips", 1),
+        ("probe-tables", 1),
     ] {
         let one = generated(&format!("one-{}", kind), kind);
         let two = generated(&format!("two-{}", kind), kind);

@@ -1,11 +1,11 @@
 //! `twin-diff DOOR PROGRAM SEED COUNT DIR`: asks another program and compares.
 //!
 //! DOOR `schedules` runs PROGRAM once for each of COUNT schedule files of each of
-//! the four kinds, as strip-run is run. DOOR `strips` (also records), `images`
-//! (calls on them), `reads` or `writes` (whole images) gives it COUNT lines at
-//! once, as twin-probe takes them. PROGRAM may have arguments, blanks between
-//! them. SEED makes the inputs; an input that shows a difference is kept in DIR,
-//! with a line that says how to repeat it.
+//! the four kinds, as strip-run is run. DOOR `strips` (also records), `tables`
+//! (lent records), `images` (calls on them), `reads` or `writes` (whole images)
+//! gives it COUNT lines at once, as twin-probe takes them. PROGRAM may have
+//! arguments, blanks between them. SEED makes the inputs; an input that shows a
+//! difference is kept in DIR, with a line that says how to repeat it.
 //!
 //! Ends with 1 if there is a difference, if a number that the door can give did
 //! not come back, or if a wrong twin that the door can show was not caught.
@@ -15,7 +15,8 @@
 use std::path::Path;
 use twin::diff::{Door, Program};
 
-const USE: &str = "use: twin-diff schedules|strips|images|reads|writes PROGRAM SEED COUNT DIR";
+const USE: &str =
+    "use: twin-diff schedules|strips|tables|images|reads|writes PROGRAM SEED COUNT DIR";
 
 fn main() {
     let arguments: Vec<String> = std::env::args().skip(1).collect();

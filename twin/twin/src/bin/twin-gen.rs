@@ -1,18 +1,21 @@
 //! `twin-gen KIND SEED COUNT DIR`: writes COUNT random schedule files of the KIND
 //! sensible, contended, wild or damaged to DIR, as KIND-SEED-NUMBER.pdo.
 //!
-//! The kinds probe-strips, probe-images, probe-reads and probe-writes write one
-//! file KIND-SEED.txt with COUNT lines for the probe. The same arguments give the same bytes.
+//! The kinds probe-strips, probe-tables, probe-images, probe-reads and
+//! probe-writes write one file KIND-SEED.txt with COUNT lines for the probe. The
+//! same arguments give the same bytes.
 #![forbid(unsafe_code)]
 #![deny(warnings)]
 
 use std::path::Path;
 use twin::generate::probe::{image_line, read_line, strip_line, write_line};
 use twin::generate::schedule::{file, Kind};
+use twin::generate::table::table_line;
 use twin::random::Random;
 
 const USE: &str = "use: twin-gen KIND SEED COUNT DIR, with KIND one of \
-    sensible, contended, wild, damaged, probe-strips, probe-images, probe-reads, probe-writes";
+    sensible, contended, wild, damaged, probe-strips, probe-tables, probe-images, probe-reads, \
+    probe-writes";
 
 fn main() {
     let arguments: Vec<String> = std::env::args().skip(1).collect();
@@ -29,6 +32,7 @@ fn main() {
     let text = directory.join(format!("{}-{}.txt", kind, seed));
     match kind {
         "probe-strips" => lines(&mut random, count, strip_line, &text),
+        "probe-tables" => lines(&mut random, count, table_line, &text),
         "probe-images" => lines(&mut random, count, image_line, &text),
         "probe-reads" => lines(&mut random, count, read_line, &text),
         "probe-writes" => lines(&mut random, count, write_line, &text),

@@ -5,3 +5,4 @@ pub mod image;
 pub mod probe;
 pub mod schedule;
 pub mod strip;
+pub mod table;

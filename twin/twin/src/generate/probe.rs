@@ -3,7 +3,7 @@
 use crate::bytes::to_hex;
 use crate::generate::image::{self, Call};
 use crate::generate::strip;
-use crate::probe::{join_record, join_words, MOST_PARTIES, MOST_WORDS};
+use crate::probe::{join_record, join_table, join_words, MOST_PARTIES, MOST_WORDS};
 use crate::random::Random;
 use crate::record::Record;
 use crate::word::Word;
@@ -63,7 +63,7 @@ pub fn image_line(random: &mut Random) -> String {
 }
 
 /// Mostly a strip; sometimes too short or too long by a word.
-fn any_strip(random: &mut Random) -> Vec<Word> {
+pub fn any_strip(random: &mut Random) -> Vec<Word> {
     match random.below(60) {
         0 => (0..random.below(3)).map(|_| random.next() % 4).collect(),
         1 => {
@@ -83,7 +83,7 @@ fn any_strip(random: &mut Random) -> Vec<Word> {
     }
 }
 
-fn any_record(random: &mut Random, words: &[Word]) -> Record {
+pub fn any_record(random: &mut Random, words: &[Word]) -> Record {
     if words.len() < 3 {
         return Record::default();
     }
@@ -94,7 +94,7 @@ fn any_record(random: &mut Random, words: &[Word]) -> Record {
     }
 }
 
-fn any_max(random: &mut Random, max: usize) -> u64 {
+pub fn any_max(random: &mut Random, max: usize) -> u64 {
     match random.below(8) {
         0 => random.pick(&[0, 1, 4094, 4095, 65_535, 65_537]),
         _ => max as u64,
@@ -165,13 +165,12 @@ pub fn write_line(random: &mut Random) -> String {
         _ => (),
     }
     let bytes: Vec<u8> = (0..length).map(|_| random.next() as u8).collect();
-    let records: String = table.iter().map(join_record).collect();
     format!(
         "write {}{} {}{} {}",
         words.len(),
         join_words(&words),
         table.len(),
-        records,
+        join_table(&table),
         to_hex(&bytes)
     )
 }

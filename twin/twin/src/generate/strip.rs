@@ -141,6 +141,26 @@ pub fn record(random: &mut Random, strip: &[Word]) -> Record {
     record
 }
 
+/// The same, mostly in stage 4 or 5 with both words as the strip has them.
+pub fn winning_record(random: &mut Random, strip: &[Word]) -> Record {
+    let any = record(random, strip);
+    if any.stage < 2 {
+        return any;
+    }
+    let k = usize::from(any.k);
+    let winning = Record {
+        stage: random.between(4, 5) as u8,
+        first: strip[neighbour(any.operation, k)],
+        second: strip[k],
+        ..any
+    };
+    if winning.is_valid(strip.len() - 2) {
+        winning
+    } else {
+        any
+    }
+}
+
 /// A place in range; mostly a border of the strip, often the wall.
 fn place_for(random: &mut Random, operation: u8, strip: &[Word]) -> usize {
     let max = strip.len() - 2;
