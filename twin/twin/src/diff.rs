@@ -44,6 +44,17 @@ impl Door {
         }
     }
 
+    /// A line for the probe; a schedule is a file and has none of its own.
+    pub fn line(self, random: &mut Random) -> String {
+        match self {
+            Door::Schedules | Door::Strips => strip_line(random),
+            Door::Tables => table_line(random),
+            Door::Images => image_line(random),
+            Door::Reads => read_line(random),
+            Door::Writes => write_line(random),
+        }
+    }
+
     /// Every number this door can give.
     pub fn numbers(self) -> &'static [u32] {
         match self {
@@ -202,16 +213,9 @@ impl Program<'_> {
 
     /// `count` lines for a probe, in one run of the program.
     pub fn lines(&self, door: Door, seed: u64, count: usize) -> Report {
-        let make = match door {
-            Door::Tables => table_line,
-            Door::Images => image_line,
-            Door::Reads => read_line,
-            Door::Writes => write_line,
-            _ => strip_line,
-        };
         let mut report = Report::new(door);
         let mut random = Random::new(seed);
-        let lines: Vec<String> = (0..count).map(|_| make(&mut random)).collect();
+        let lines: Vec<String> = (0..count).map(|_| door.line(&mut random)).collect();
         let path = self.write(
             &format!("lines-{}.txt", seed),
             (lines.join("\n") + "\n").as_bytes(),

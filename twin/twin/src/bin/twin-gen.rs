@@ -8,9 +8,8 @@
 #![deny(warnings)]
 
 use std::path::Path;
-use twin::generate::probe::{image_line, read_line, strip_line, write_line};
+use twin::diff::Door;
 use twin::generate::schedule::{file, Kind};
-use twin::generate::table::table_line;
 use twin::random::Random;
 
 const USE: &str = "use: twin-gen KIND SEED COUNT DIR, with KIND one of \
@@ -30,18 +29,14 @@ fn main() {
     let kind = arguments[0].as_str();
     let mut random = Random::new(seed);
     let text = directory.join(format!("{}-{}.txt", kind, seed));
-    match kind {
-        "probe-strips" => lines(&mut random, count, strip_line, &text),
-        "probe-tables" => lines(&mut random, count, table_line, &text),
-        "probe-images" => lines(&mut random, count, image_line, &text),
-        "probe-reads" => lines(&mut random, count, read_line, &text),
-        "probe-writes" => lines(&mut random, count, write_line, &text),
-        _ => files(&mut random, kind, seed, count, directory),
+    match kind.strip_prefix("probe-").and_then(Door::by_name) {
+        None | Some(Door::Schedules) => files(&mut random, kind, seed, count, directory),
+        Some(door) => lines(&mut random, count, door, &text),
     }
 }
 
-fn lines(random: &mut Random, count: usize, line: fn(&mut Random) -> String, path: &Path) {
-    let text: String = (0..count).map(|_| line(random) + "\n").collect();
+fn lines(random: &mut Random, count: usize, door: Door, path: &Path) {
+    let text: String = (0..count).map(|_| door.line(random) + "\n").collect();
     std::fs::write(path, text).expect("DIR can be written");
 }
 
