@@ -81,6 +81,8 @@ impl Door {
             FirstRecordChecked => &[Reads, Writes],
             StripBeforeCheck => &[Reads],
             SpareBytesLeft => &[Writes],
+            PoppedOrderDropped | FirstRecordStored | EveryRecordChecked | AnyTableLength
+            | LentRecordKept => &[Tables],
             _ => &[Schedules, Strips, Tables, Images],
         }
     }

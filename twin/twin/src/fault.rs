@@ -49,9 +49,19 @@ pub enum Fault {
     StripBeforeCheck,
     /// Writing a whole image leaves the last party's last eight bytes as they were.
     SpareBytesLeft,
+    /// No call on a lent record carries the popped order.
+    PoppedOrderDropped,
+    /// A call on a table stores what comes of the named record in the first's place.
+    FirstRecordStored,
+    /// A call on a table checks every record.
+    EveryRecordChecked,
+    /// A table may have no records, or more than 16.
+    AnyTableLength,
+    /// A record lent alone is left as it was.
+    LentRecordKept,
 }
 
-pub const FAULTS: [(Fault, &str); 23] = [
+pub const FAULTS: [(Fault, &str); 28] = [
     (Fault::EmptyAtSecondLook, "empty-at-second-look"),
     (Fault::FullAtAnswer, "full-at-answer"),
     (Fault::ValuesCompared, "values-compared"),
@@ -75,6 +85,11 @@ pub const FAULTS: [(Fault, &str); 23] = [
     (Fault::FirstRecordChecked, "first-record-checked"),
     (Fault::StripBeforeCheck, "strip-before-check"),
     (Fault::SpareBytesLeft, "spare-bytes-left"),
+    (Fault::PoppedOrderDropped, "popped-order-dropped"),
+    (Fault::FirstRecordStored, "first-record-stored"),
+    (Fault::EveryRecordChecked, "every-record-checked"),
+    (Fault::AnyTableLength, "any-table-length"),
+    (Fault::LentRecordKept, "lent-record-kept"),
 ];
 
 impl Fault {

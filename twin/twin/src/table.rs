@@ -38,17 +38,17 @@ impl Twin {
 
     pub fn record_start(self, max: u64, record: &mut Record, operation: u64, v: u32) -> Answer {
         let after = self.start(max, *record, operation, v);
-        store(record, after)
+        self.store_alone(record, after)
     }
 
     pub fn record_withdraw(self, max: u64, record: &mut Record) -> Answer {
         let after = self.withdraw(max, *record);
-        store(record, after)
+        self.store_alone(record, after)
     }
 
     pub fn record_step(self, strip: &mut [Word], record: &mut Record, hint: u64) -> Answer {
         let after = self.step(strip, *record, hint);
-        store(record, after)
+        self.store_alone(record, after)
     }
 
     pub fn table_start(
@@ -96,24 +96,50 @@ impl Twin {
     where
         F: FnOnce(Record) -> After,
     {
-        if !max_fits(named.max) || !count_fits(table.len() as u64) {
+        if !max_fits(named.max) || !self.table_fits(table) {
             return Answer::of(BAD_LENGTH);
         }
         let refusal = self.name_refusal(named.bad_field, named.party, table.len());
         if let Some(number) = refusal {
             return Answer::of(number);
         }
-        let record = &mut table[named.party as usize];
-        let after = call(*record);
-        store(record, after)
+        let spoilt = |record: &Record| !record.is_valid(named.max as usize);
+        if self.has(Fault::EveryRecordChecked) && table.iter().any(spoilt) {
+            return Answer::of(BAD_RECORD);
+        }
+        let party = named.party as usize;
+        let after = call(table[party]);
+        let place = if self.has(Fault::FirstRecordStored) {
+            0
+        } else {
+            party
+        };
+        self.store(&mut table[place], after)
     }
-}
 
-/// A refusal writes nothing.
-fn store(record: &mut Record, after: After) -> Answer {
-    let (answer, after) = after;
-    if !answer.is_refusal() {
-        *record = after;
+    fn table_fits(self, table: &[Record]) -> bool {
+        count_fits(table.len() as u64) || self.has(Fault::AnyTableLength)
     }
-    answer
+
+    /// A record lent alone has no number, so there is no 3 before this.
+    fn store_alone(self, record: &mut Record, after: After) -> Answer {
+        let before = *record;
+        let answer = self.store(record, after);
+        if self.has(Fault::LentRecordKept) {
+            *record = before;
+        }
+        answer
+    }
+
+    /// A refusal writes nothing.
+    fn store(self, record: &mut Record, after: After) -> Answer {
+        let (answer, after) = after;
+        if !answer.is_refusal() {
+            *record = after;
+        }
+        if self.has(Fault::PoppedOrderDropped) {
+            return Answer::of(answer.number);
+        }
+        answer
+    }
 }

@@ -44,6 +44,7 @@ fn a_right_program_passes() {
 fn a_wrong_program_does_not() {
     for (door, program, fault, count) in [
         (Door::Strips, PROBE, "find-from-far-end", 2000),
+        (Door::Tables, PROBE, "first-record-stored", 2000),
         (Door::Images, PROBE, "spare-bytes-unchecked", 2000),
         (Door::Reads, PROBE, "first-record-checked", 2000),
         (Door::Writes, PROBE, "spare-bytes-left", 2000),

@@ -1,26 +1,29 @@
-//! Teeth: each wrong twin differs from the faithful one on generated inputs.
+//! Teeth: each wrong twin differs from the faithful one on generated inputs, at
+//! the doors that can show it and at no other.
 #![forbid(unsafe_code)]
 #![deny(warnings)]
 
 use twin::diff::Door;
 use twin::fault::FAULTS;
 use twin::generate::image::{any, call};
-use twin::generate::probe::{read_line, strip_line, write_line};
 use twin::generate::schedule::{file, KINDS};
-use twin::generate::table::table_line;
 use twin::random::{seed_or, Random};
 use twin::{Fault, Twin};
 
 const FILES: usize = 500;
 const CALLS: usize = 20_000;
-const LINES: usize = 4000;
+const LINES: usize = 6000;
+
+/// The doors of the probe; image calls are made without it.
+const PROBED: [Door; 4] = [Door::Strips, Door::Tables, Door::Reads, Door::Writes];
 
 /// On how many of the inputs a wrong twin shows.
 #[derive(Default)]
 struct Shown {
     files: usize,
     calls: usize,
-    lines: usize,
+    /// For each door of the probe.
+    lines: [usize; 4],
 }
 
 /// Every input once, through the faithful twin and through all wrong ones.
@@ -48,41 +51,42 @@ fn show_all(seed: u64) -> Vec<Shown> {
             shown[i].calls += usize::from(play(Twin::wrong(*fault)) != right);
         }
     }
-    for make in [strip_line, table_line, read_line, write_line].repeat(LINES) {
-        let line = make(&mut random);
-        let right = Twin::faithful().probe(&line);
-        for (i, (fault, _)) in FAULTS.iter().enumerate() {
-            shown[i].lines += usize::from(Twin::wrong(*fault).probe(&line) != right);
+    for (at, door) in PROBED.iter().enumerate() {
+        for _ in 0..LINES {
+            let line = door.line(&mut random);
+            let right = Twin::faithful().probe(&line);
+            for (i, (fault, _)) in FAULTS.iter().enumerate() {
+                let wrong = Twin::wrong(*fault).probe(&line);
+                shown[i].lines[at] += usize::from(wrong != right);
+            }
         }
     }
     shown
 }
 
 #[test]
-fn each_wrong_twin_shows() {
+fn each_wrong_twin_shows_where_it_can() {
     let seed = seed_or(51);
     println!(
-        "seed {}: {} files, {} image calls, {} probe lines",
+        "seed {}: {} files, {} image calls, {} lines for each door of the probe",
         seed,
         4 * FILES,
         CALLS,
-        4 * LINES
+        LINES
     );
     let shown = show_all(seed);
     for ((fault, name), shown) in FAULTS.iter().zip(&shown) {
         println!(
-            "{:24} {:5} files {:5} calls {:5} lines",
+            "{:24} {:5} files {:5} calls {:5?} lines",
             name, shown.files, shown.calls, shown.lines
         );
-        let at_the_probe = [Door::Strips, Door::Tables, Door::Reads, Door::Writes];
-        if at_the_probe.iter().any(|door| door.shows(*fault)) {
-            assert!(shown.lines > 0, "{} does not show", name);
-        }
-        if Door::Images.shows(*fault) {
-            assert!(shown.calls > 0, "{} does not show", name);
-        }
-        if Door::Schedules.shows(*fault) {
-            assert!(shown.files > 0, "{} does not show", name);
+        let check = |door: Door, inputs: usize| {
+            assert_eq!(inputs > 0, door.shows(*fault), "{} at {:?}", name, door);
+        };
+        check(Door::Schedules, shown.files);
+        check(Door::Images, shown.calls);
+        for (door, lines) in PROBED.iter().zip(shown.lines) {
+            check(*door, lines);
         }
     }
 }
