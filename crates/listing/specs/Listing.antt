@@ -61,6 +61,6 @@ listingText max divide parties calls =
 abbrev pub Narrow : Call → Type 0
 Narrow call = partyOf call < 256
 
--- no listing of a schedule file is longer
-abbrev pub longest : ℕ
-longest = 147489
+-- a bound: no listing of a schedule file is longer
+abbrev pub listingBound : ℕ
+listingBound = 147489

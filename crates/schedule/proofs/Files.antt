@@ -1,4 +1,4 @@
--- What is known of a schedule file that no check refused, and that its listing has room in the longest.
+-- What is known of a schedule file that no check refused, and that its listing has room in what is asked for.
 use Prim.Native.Nat.{ℕ, zero, suc, _+_, _-_, _%_, _≤_}
 use mathlib.Core.Path.{_≡_, refl, _∙_, ap}
 use mathlib.Core.Bool.{not, _&&_}
@@ -19,8 +19,8 @@ use Rattle.strip.proofs.Laying.{laid-leaves}
 use Rattle.entry.specs.Entry.{callAt}
 use Rattle.entry.proofs.Asks.{party-is, an-order-in-bytes-has-32-bits}
 use Rattle.history.specs.Run.{noCall, endFrom}
-use Rattle.listing.specs.Listing.{runText, headerText, cellsText, listingText, longest, Narrow}
-use Rattle.listing.proofs.Longest.{no-listing-is-longer}
+use Rattle.listing.specs.Listing.{runText, headerText, cellsText, listingText, listingBound, Narrow}
+use Rattle.listing.proofs.Bound.{no-listing-is-longer}
 use Rattle.header.specs.Header.{isMarked, partiesAt, maxAt, versionAt, countsFit}
 use Rattle.schedule.specs.File.{divideAt, entriesOf, lengthFits, fileRefusal, callsFrom, callsOf}
 use Rattle.schedule.specs.List.{listingOf, firstOf}
@@ -97,15 +97,15 @@ calls-fit file bytes = every-call Fitting file (λ at. an-order-in-bytes-has-32-
 
 -- What is said of a file's listing holds of bytes.
 module _ (file : List ℕ) (passes : fileRefusal file ≡ 0) (bytes : AreBytes file) where
-  -- The longest is long enough.
-  pub the-listing-fits : length (listingOf file) ≤ longest
+  -- What is asked for is enough.
+  pub the-listing-fits : length (listingOf file) ≤ listingBound
   the-listing-fits =
       let l = listable file passes in
       no-listing-is-longer (maxAt file) (divideAt file) (partiesAt file) (callsOf file) (l .max-high) (l .inside) (l .parties-high)
       (rw (calls-count file 10 (entriesOf file)) (l .few)) (calls-narrow file bytes)
 
   -- the room that a listing wants, piece by piece
-  pub room-to-list : (out : List ℕ) → longest ≤ length out → Room (headerPiece file ++ (linesPiece file ++ cellsPiece file)) out 0
+  pub room-to-list : (out : List ℕ) → listingBound ≤ length out → Room (headerPiece file ++ (linesPiece file ++ cellsPiece file)) out 0
   unfolding listingText
   room-to-list out long = record { fits = omega (arith, the-listing-fits) }
 

@@ -11,22 +11,22 @@ use native.Mathlib.Omega.{arith}
 use native.Mathlib.Nat.{zero-add}
 use Rattle.logic.proofs.Bools.{both, passed}
 use Rattle.text.specs.Writing.{Puts}
-use Rattle.listing.specs.Listing.{longest}
+use Rattle.listing.specs.Listing.{listingBound}
 use Rattle.header.specs.Header.{maxAt}
 use Rattle.schedule.specs.File.{fileRefusal}
 use Rattle.schedule.specs.List.{listRefusal, listingOf, wordsAtEnd, ListPromise}
 
 pub record Clear (file : List ℕ) (words room : ℕ) : Type 0 where
   pub whole : words ≡ 4096
-  pub wide : longest ≤ room
+  pub wide : listingBound ≤ room
   pub passes : fileRefusal file ≡ 0
 
 pub clear : (file : List ℕ) (words room : ℕ) → listRefusal file words room ≡ 0 → Clear file words room
 unfolding listRefusal
 clear file words room e =
-    let past = passed (not (eqb words 4096 && leb longest room)) 0 _ e in
-    let each = both (eqb words 4096) (leb longest room) (not-false (eqb words 4096 && leb longest room) (past .0)) in
-    record { whole = eqb-true words 4096 (each .0); wide = leb-true longest room (each .1); passes = past .1 }
+    let past = passed (not (eqb words 4096 && leb listingBound room)) 0 _ e in
+    let each = both (eqb words 4096) (leb listingBound room) (not-false (eqb words 4096 && leb listingBound room) (past .0)) in
+    record { whole = eqb-true words 4096 (each .0); wide = leb-true listingBound room (each .1); passes = past .1 }
 
 module _ (file strip out : List ℕ) where
   pub when-refused : (number : ℕ) → number ≡ listRefusal file (length strip) (length out) → (number ≡ 0 → ⊥)
@@ -35,7 +35,7 @@ module _ (file strip out : List ℕ) where
       let test = ne-eqb (listRefusal file (length strip) (length out)) 0 (λ e. refused (is ∙ e)) in
       record { gives = rw (← is, ne-eqb number 0 refused); words-left = rw test; bytes-left = rw test }
 
-  pub when-listed : listRefusal file (length strip) (length out) ≡ 0 → length (listingOf file) ≤ longest
+  pub when-listed : listRefusal file (length strip) (length out) ≡ 0 → length (listingOf file) ≤ listingBound
       → (next : ℕ) (left : List ℕ) → Puts (listingOf file) out 0 next left
       → ListPromise file strip out (record { number = 0; length = next }) (wordsAtEnd file ++ drop (maxAt file + 2) strip) left
   when-listed passes short next left puts =

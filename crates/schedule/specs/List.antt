@@ -7,14 +7,14 @@ use lib.ListN.{length, drop}
 use lib.Dec.{eqb, leb}
 use Rattle.logic.specs.Pick.{pick}
 use Rattle.history.specs.Run.{State, endFrom}
-use Rattle.listing.specs.Listing.{firstState, listingText, longest}
+use Rattle.listing.specs.Listing.{firstState, listingText, listingBound}
 use Rattle.header.specs.Header.{partiesAt, maxAt}
 use Rattle.schedule.specs.File.{divideAt, fileRefusal, callsOf}
 use Rattle.schedule.specs.declared.Listed.{Listed}
 
--- the strip is lent at its longest and the listing has room, whatever the file; then the file's own checks
+-- the strip is lent at its longest and any listing has room, whatever the file; then the file's own checks
 unfoldable pub listRefusal : (file : List ℕ) (words room : ℕ) → ℕ
-listRefusal file words room = pick (not (eqb words 4096 && leb longest room)) 1 (fileRefusal file)
+listRefusal file words room = pick (not (eqb words 4096 && leb listingBound room)) 1 (fileRefusal file)
 
 -- what is written where no check refuses
 abbrev pub listingOf : (file : List ℕ) → List ℕ

@@ -1,5 +1,5 @@
 // The checks of a schedule file, in document 01's order.
-use crate::LONGEST;
+use crate::LISTING_BOUND;
 use header::counts_fit;
 use header::is_marked;
 use header::max;
@@ -44,7 +44,7 @@ pub fn list_refusal(file: &[u8], words: usize, room: usize) -> u32
     ensures { λ n. ⌜ n ≡ listRefusal (now (file .entry)) words room ⌝ }
 {
     pick_u32(
-        !((words == 4096) & (LONGEST <= room)),
+        !((words == 4096) & (LISTING_BOUND <= room)),
         1,
         file_refusal(file),
     )

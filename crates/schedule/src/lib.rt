@@ -12,13 +12,13 @@ ghost use mathlib.Core.Path.{_≡_};
 ghost use Prim.Native.Nat.{_+_, _≤_};
 ghost use lib.ListN.{length};
 ghost use Rattle.text.specs.Writing.{Puts};
-ghost use Rattle.listing.specs.Listing.{longest};
+ghost use Rattle.listing.specs.Listing.{listingBound};
 ghost use Rattle.header.specs.Header.{maxAt};
 ghost use Rattle.schedule.specs.File.{fileRefusal};
 ghost use Rattle.schedule.specs.List.{listingOf, wordsAtEnd, ListPromise};
 
-// No listing is longer.
-pub const LONGEST: usize = 147489;
+// A bound: no listing is longer.
+pub const LISTING_BOUND: usize = 147489;
 
 // What list answers: the number, and the length of the listing, 0 with a refusal.
 pub struct Listed {
@@ -27,7 +27,7 @@ pub struct Listed {
 }
 
 fn run_and_tell(file: &[u8], strip: &mut [u64], out: &mut [u8]) -> usize
-    requires { ⌜ (fileRefusal (now file) ≡ 0) × (length (now strip) ≡ maxAt (now file) + 2) × (longest ≤ length (now out)) ⌝ }
+    requires { ⌜ (fileRefusal (now file) ≡ 0) × (length (now strip) ≡ maxAt (now file) + 2) × (listingBound ≤ length (now out)) ⌝ }
     ensures lines { λ next. ⌜ Puts (listingOf (now (file .entry))) (now (out .entry)) 0 next (now (out .exit)) ⌝ }
     ensures words { λ next. ⌜ now (strip .exit) ≡ wordsAtEnd (now (file .entry)) ⌝ }
 {
@@ -40,7 +40,7 @@ fn run_and_tell(file: &[u8], strip: &mut [u64], out: &mut [u8]) -> usize
 }
 
 // List: runs every entry of a schedule file on a fresh strip, laid in the first MAX+2 of 4,096 lent words, and writes the
-// listing into lent bytes, at least LONGEST of them.
+// listing into lent bytes, at least LISTING_BOUND of them.
 pub fn list(file: &[u8], strip: &mut [u64], out: &mut [u8]) -> Listed
     ensures { λ got. ⌜ ListPromise (now (file .entry)) (now (strip .entry)) (now (out .entry)) got (now (strip .exit)) (now (out .exit)) ⌝ }
 {

@@ -19,7 +19,7 @@ use Rattle.history.specs.Run.{Line, linesFrom, endFrom}
 use Rattle.history.specs.Finished.{finishedOf}
 use Rattle.history.specs.Explained.{ExplainedRun}
 use Rattle.history.proofs.EverySchedule.{every-schedule-on-a-fresh-strip-is-explained, no-counter-comes-round-on-a-fresh-strip}
-use Rattle.listing.specs.Listing.{longest}
+use Rattle.listing.specs.Listing.{listingBound}
 use Rattle.listing.proofs.Bounds.{lines-are-bounded}
 use Rattle.schedule.specs.File.{divideAt, entriesOf, fileRefusal, callsOf}
 use Rattle.schedule.specs.List.{listingOf, firstOf, listRefusal, ListPromise}
@@ -97,7 +97,7 @@ module _ (file strip out : List ℕ) (are : AreBytes file) (got : Listed) (words
 
   taken : fileRefusal file ≡ 0
   unfolding listRefusal
-  taken = passed (not (eqb (length strip) 4096 && leb longest (length out))) 0 (fileRefusal file) none .1
+  taken = passed (not (eqb (length strip) 4096 && leb listingBound (length out))) 0 (fileRefusal file) none .1
 
   the-listing-is-written : written ≡ listingOf file
   the-listing-is-written =

@@ -14,7 +14,7 @@ use Rattle.strip.proofs.Laying.{fresh-length}
 use Rattle.history.specs.Run.{Line, noCall, linesFrom, endFrom, noLine}
 use Rattle.history.specs.Finished.{isResult}
 use Rattle.history.proofs.Counters.{the-strip-stays-as-long}
-use Rattle.listing.specs.Listing.{effectText, lineText, linesText, runText, headerText, wordsText, cellsText, firstState, listingText, longest, Narrow}
+use Rattle.listing.specs.Listing.{effectText, lineText, linesText, runText, headerText, wordsText, cellsText, firstState, listingText, listingBound, Narrow}
 use Rattle.listing.proofs.Bounds.{Bounded, lines-are-bounded}
 
 effect-length : (line : Line) → line .effect < 2048 → length (effectText line) ≤ 4
@@ -60,7 +60,7 @@ lines-length (call ∷ calls) (line ∷ lines) entry narrow bounded fits =
     omega (arith, length-append (lineText entry call line) (linesText (suc entry) calls lines))
 
 pub no-listing-is-longer : (max divide parties : ℕ) (calls : List Call) → max ≤ 4094 → divide ≤ max → parties ≤ 16 → length calls ≤ 2048
-    → Every Narrow noCall calls → length (listingText max divide parties calls) ≤ longest
+    → Every Narrow noCall calls → length (listingText max divide parties calls) ≤ listingBound
 unfolding listingText
 no-listing-is-longer max divide parties calls max-fits inside parties-fit few narrow =
     let first = firstState max divide parties in
