@@ -31,3 +31,12 @@ findOf operation strip =
     pick (stripFits (length strip))
     (firstFrom (isEnd operation strip) (candidate operation (maxOf (length strip))) 0 (maxOf (length strip) + 1))
     (NotFound 1)
+
+-- the number of document 01's table, and the place, which is 0 with a refusal
+abbrev pub foundNumber : Found → ℕ
+foundNumber (Place place) = 0
+foundNumber (NotFound number) = number
+
+abbrev pub foundPlace : Found → ℕ
+foundPlace (Place place) = place
+foundPlace (NotFound number) = 0

@@ -1,4 +1,4 @@
--- Document 01's nine entries as a schedule file, and the listing that it prints for them.
+-- Document 01's nine entries as a schedule file, and the listing that it prints for them. They are examples/fight.
 use Prim.Native.Nat.{ℕ}
 use mathlib.Core.List.{List, [], _∷_}
 

@@ -11,6 +11,7 @@ use Rattle.strip.specs.Measure.{measureOf, measuredLeft}
 use Rattle.history.specs.Run.{State, begin, linesFrom, endFrom}
 use Rattle.schedule.specs.List.{listingOf}
 use Rattle.marks.specs.Fight.{fight, fightText}
+use Rattle.marks.specs.Withdrawal.{withdrawal, withdrawalText}
 use Rattle.marks.specs.Seen.{Row, goes, refuses, ends, sameRow, seenFrom}
 use Rattle.marks.specs.Replay.{allSame, isExplained}
 
@@ -267,6 +268,6 @@ marks =
     }
     ∷ []
 
--- M3 as it is printed: document 01's nine entries, as a schedule file, print its listing.
+-- M3 as it is printed: document 01's nine entries, as a schedule file, print its listing; and so does the second file.
 abbrev pub prints : Bool
-prints = allSame eqb (listingOf fight) fightText
+prints = allSame eqb (listingOf fight) fightText && allSame eqb (listingOf withdrawal) withdrawalText
