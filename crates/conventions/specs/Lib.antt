@@ -1,0 +1,11 @@
+pub mod Case
+pub mod Given
+pub mod Numbers
+pub mod Records
+pub mod Strips
+pub mod Calls
+pub mod Entries
+pub mod Images
+pub mod Files
+pub mod Conventions
+pub mod Spelled
