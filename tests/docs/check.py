@@ -13,7 +13,7 @@ for line in Path("crates.txt").read_text().splitlines():
         CRATES[crate] = uses.split()
 
 faults = []
-counts = dict.fromkeys(["links", "names", "statements", "calls", "paths", "edits", "crates", "programs"], 0)
+counts = dict.fromkeys(["links", "names", "statements", "calls", "paths", "edits", "crates", "programs", "bytes", "helpers"], 0)
 
 
 def check(kind, held, fault):
@@ -169,6 +169,30 @@ def check_edits():
         check("edits", (crate, edit) in named, f"{page}: does not name the edit {crate}/{edit}")
 
 
+def public_functions():
+    """Each `pub fn` that another crate can reach, of every crate but the programs: crate, name, and whether it has a `requires`."""
+    for crate in CRATES:
+        root = Path("crates", crate, "src/lib.rt")
+        text = root.read_text() if root.is_file() else ""
+        files = [root] * bool(text) + [root.with_name(f"{name}.rt") for name in re.findall(r"^pub mod (\w+);", text, re.M)]
+        for file in files:
+            for name, contract in re.findall(r"^pub fn (\w+)(.*?)(?:^| )\{$", file.read_text(), re.M | re.S):
+                yield crate, name, "requires" in contract
+
+
+def check_helpers():
+    """PROMISES has every public function of the library: as `crate::name`, a call, or in a row of helpers, with what it asks."""
+    page = Path("docs/PROMISES.md")
+    text = page.read_text()
+    asks = {}
+    for crate, names, what in re.findall(r"^\| `(\w+)` \| ([^|]*) \| ([^|]*) \|", text, re.M):
+        asks.update({(crate, name): what != "nothing" for name in re.findall(r"`(\w+)`", names)})
+    for crate, name, requires in public_functions():
+        call = f"`{crate}::{name}`" in text
+        check("helpers", call or (crate, name) in asks, f"{page}: does not name {crate}::{name}")
+        check("helpers", requires == asks.get((crate, name), False), f"{page}: what {crate}::{name} asks is not as its contract has it")
+
+
 def check_map():
     """Every crate has a row in ARCHITECTURE and its place in the map; the arrows say what crates.txt says, with what follows."""
     page = Path("docs/ARCHITECTURE.md")
@@ -196,7 +220,23 @@ def check_programs():
         check("programs", path in dict(shown), f"README.md: does not show {path}")
 
 
-for part in [check_links, check_names, check_known, check_statements, check_calls, check_paths, check_edits, check_map, check_programs]:
+def bytes_of(path, name, close):
+    """The bytes that a file writes out between a name with `=` and a closing sign."""
+    block = re.search(rf"^.*\b{name}\b[^\n]*=(.*?){re.escape(close)}", Path(path).read_text(), re.M | re.S).group(1)
+    return bytes(map(int, re.findall(r"\d+", block)))
+
+
+def check_bytes():
+    """What a definition spells out is what lies in the example, or what the C test expects."""
+    for name in ["fight", "withdrawal"]:
+        spec = f"crates/marks/specs/{name.title()}.antt"
+        for defined, file in [(name, f"examples/{name}.pdo"), (f"{name}Text", f"examples/{name}.listing")]:
+            check("bytes", bytes_of(spec, defined, "[]") == Path(file).read_bytes(), f"{spec}: {defined} is not {file}")
+    spec, test = "crates/conventions/specs/Spelled.antt", "tests/c/spelled.c"
+    check("bytes", bytes_of(spec, "bytes", "[]") == bytes_of(test, "bytes", "}"), f"{test}: other bytes than {spec}")
+
+
+for part in [check_links, check_names, check_known, check_statements, check_calls, check_paths, check_edits, check_helpers, check_map, check_programs, check_bytes]:
     part()
 for kind, count in counts.items():
     if count == 0:
