@@ -3,7 +3,7 @@ use Prim.Native.Nat.{ℕ, _+_}
 use mathlib.Core.Path.{_≡_, refl, sym, _∙_, ap, subst}
 use mathlib.Core.Bool.{Bool, true, false}
 use mathlib.Core.List.{List}
-use lib.ListN.{length, getD}
+use lib.ListN.{length, getD, length-replicate}
 use lib.Seq.{getD-set-other}
 use lib.Dec.{eqb}
 use Rattle.record.specs.Record.{idle}
@@ -19,7 +19,6 @@ use Rattle.step.proofs.Accesses.{Gone}
 use Rattle.step.proofs.Went.{GoneOn, Went, went}
 use Rattle.table.specs.Lent.{Does, DoesAtMax, alone, blank}
 use Rattle.table.specs.declared.Said.{Said}
-use Rattle.table.proofs.Promised.{blank-words}
 
 module _ {strip : List ℕ} {table : List Record} {call : Call} where
   -- Two results that keep one promise say the same and leave the same words and records.
@@ -92,7 +91,7 @@ module _ (strip strip′ : List ℕ) (table : List Record) (call : Call) (len : 
 
 module _ (max : ℕ) (strip : List ℕ) (words : length strip ≡ max + 2) (table : List Record) where
   same-length : length (blank max) ≡ length strip
-  same-length = blank-words max ∙ sym words
+  same-length = length-replicate (max + 2) 0 ∙ sym words
 
   pub any-strip-starts : (party operation order : ℕ) {said : Said} {left : List Record}
       → DoesAtMax max table (Call.start party operation order) said left → Does strip table (Call.start party operation order) said strip left

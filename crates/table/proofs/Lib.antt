@@ -1,3 +1,3 @@
+pub mod Kept
 pub mod Promised
 pub mod Machine
-pub mod Kept

@@ -102,9 +102,7 @@ pub fn step_in(strip: &mut [u64], table: &mut [Record], party: u32, hint: u32) -
         return Said { number, carried: 0 };
     }
     let at = party as usize;
-    let t = step_told(strip, table[at], hint);
-    table[at] = t.rec;
-    t.said
+    step_record(strip, &mut table[at], hint)
 }
 
 // Start and withdraw are handed MAX and no strip.
@@ -124,9 +122,7 @@ pub fn start_in(max: u32, table: &mut [Record], party: u32, operation: u32, orde
         return Said { number, carried: 0 };
     }
     let at = party as usize;
-    let t = start_told(max, table[at], operation, order);
-    table[at] = t.rec;
-    t.said
+    start_record(max, &mut table[at], operation, order)
 }
 
 pub fn withdraw_record(max: u32, r: &mut Record) -> Said
@@ -145,7 +141,5 @@ pub fn withdraw_in(max: u32, table: &mut [Record], party: u32) -> Said
         return Said { number, carried: 0 };
     }
     let at = party as usize;
-    let t = withdraw_told(max, table[at]);
-    table[at] = t.rec;
-    t.said
+    withdraw_record(max, &mut table[at])
 }

@@ -17,7 +17,10 @@
 --      `look-raw ! 0 refl`, write it by `store-raw ! 0 refl`; `closes-struct` at what was stored. The call may stand between.
 --   5. Element i of a `&mut [T]`: `widens` for a u32 index, `scaled-fits` and `place-is` with T's size for the address, which must be
 --      rewritten before `opens-element` turns [obs; borrow; token] into [its cell; the others; open borrow; obs; auth]; then as in 4,
---      and `closes-element` at the list with the new value at i.
+--      and `closes-element` at the list with the new value at i (crates/whole/proofs/read_table).
+--      Lent on as a `&mut T` to a function that takes one: the address, rewritten, and its `addr`; then `lends-element` turns [obs; borrow;
+--      token] into [the reference; its lifetime's token; `LentElement`]: the first two go to the callee. After `land`, `element-home` at
+--      [that token; `LentElement`; the last value, a `fres`] gives [obs; borrow; token] back (crates/table/proofs/step_in).
 --   6. A `while i < n` loop. Its invariant is the whole context `At i` at `Upto n`, in which what a turn writes beside it is room; the
 --      order is `Nearer n`. Before it `first ! $ blocks ! $ loops ! 𝓣 (Nearer n) (nearer-wf n) At turns (0, zero-le)`. A turn is
 --      `unfolding afterTurn`; its test is `goes-on`, whose second arm is the code after the loop, by `exec`; the last statement is an
@@ -46,7 +49,7 @@ use mir.Syntax.{Lifetime, Ty, Local, local, tyUnit, Place, Opd as Operand, w32, 
 use mir.Val.{Val, vunit, vbool, vint, vptr, Fits}
 use base.Logic.{ent, sep, id⊢, via, monoL, monoR}
 use base.Stored.{Gv}
-use base.Fml.{Lft, GName, Share, Fml, fsep, flft, fobs, fauth, fres, fbor, fobor, fshr-bor, fat, froom, fdies}
+use base.Fml.{Lft, GName, Share, Fml, fsep, flft, flent, fobs, fauth, fres, fbor, fobor, fshr-bor, fat, froom, fdies}
 use prog.Wp.{Heap, Env, Calls, Loops, Wp, afterSeq, exits}
 use ghost.Atoms.{Atoms}
 use types.Kit.{prop, Goal, Soaks, Given, Item, mean, ⋆, nth, del, pull, push, frees, runs, lands, Post, post, anyQ, ‵, raw, _⊛_, some, later, Seq, Step, step, _$_, move, use1, use2, use3, drop, split, rewrite, pick, fsplit, fjoin, fjoin3, feqL, feqI, await}
@@ -57,14 +60,15 @@ use types.Tokens.{lft-new, lft-end}
 use contract.Monad.{fact}
 use denote.RattleType.{RattleType}
 use denote.Laws.{Is, Copy, shows}
-use denote.Memory.{cellAt, mem, shares}
+use denote.Memory.{cellAt, partAt, mem, shares}
 use denote.Shadow.{pureI}
 use denote.Plain.{uint-tells, uint-makes}
 use denote.Builtin.{u32, usize, unit}
 use denote.Ref.{RefT, MutRef}
 use denote.Slice.{sliceVal, MutSlice, ShrSlice, shr-slice-copy, Room, at-slice, heres, finally, res-finally, codedHoleys}
-use denote.Lend.{Held}
-use denote.Index.{place, others, elem-out, elem-back, elem-put, opens-slice, closes-slice, looks-slice, shuts-slice}
+use denote.Lend.{Held, lends-ref, ref-back}
+use denote.Index as index
+use denote.Index.{place, others, takes, puts, elem-out, elem-back, elem-put, opens-slice, closes-slice, looks-slice, shuts-slice}
 use denote.Steps.{opens, closes, facts, owned, heard, only}
 use denote.Signature.{typeAt}
 use denote.Struct.Declared.{Declared, row, fields}
@@ -79,6 +83,12 @@ use denote.Triple.Clauses.{Ended, Clauses, Lasts, lasts, atExit, closing}
 -- the borrow that a `&[R]` is
 abbrev pub SharedAll : (R : RattleType) → Lft → List (R .Denot) → ℕ → ℕ → Fml
 SharedAll R κ ys b o = fshr-bor κ (λ s. arr-parts (shares R) (length ys) .part s ys b o)
+
+-- what the holder of a `&mut [R]` keeps while it has lent element i for ν under the name δ: the lender's part, the other elements, and its
+-- own borrow, open
+abbrev pub LentElement : (R : RattleType) → Lft → Share → GName → List (R .Denot) → (i b o : ℕ) → (ν : ℕ) → GName → Fml
+LentElement R κ q γ ys i b o ν δ = fsep (flent (ν ∷ []) (Body (mem R) b (place (mem R .size) o i) δ)) (fsep (others (shares R) fullShare ys i b o)
+    (fsep (fobor κ q (Held R (length ys) b o γ)) (fsep (fobs γ (codedHoleys R .code (heres R ys))) (fauth γ (codedHoleys R .code (heres R ys))))))
 
 module _ {M : Type 1} {𝓤 : URA M} {H : Heap 𝓤} {A : Atoms 𝓤} {K : Type 0} {W : Given 𝓤 H A} {Γ : List (Item 𝓤)} {G : Goal 𝓤 H} where
   -- ---- behind a reference: one struct, and one element of a slice
@@ -125,6 +135,26 @@ module _ {M : Type 1} {𝓤 : URA M} {H : Heap 𝓤} {A : Atoms 𝓤} {K : Type 
       → Step K W (‵ (flft κ q) ∷ Γ) G (‵ (cellAt q′ (row T .mir) (LL.vals T L (getD ys i d)) b (place (mem (row T) .size) o i)) ∷ ‵ (row T .own (getD ys i d) (LL.vals T L (getD ys i d))) ∷ ‵ (others (shares (row T)) q′ ys i b o)
       ∷ ‵ (fobor κ q (arr-parts (shares (row T)) (length ys) .part q′ ys b o)) ∷ Γ) G
   shuts-element t z T L q′ ys i d b o l = step (λ s. elem-back t (row T) q′ ys i d (LL.vals T L (getD ys i d)) b o l $ shuts-slice t z (row T) q′ ys b o $ s)
+
+  -- element i of a `&mut [R]` is lent as a `&mut R` for the lifetime ν of a call, and comes home at the value that the call left
+  pub lends-element : K → Soaks G → (ℓ : Lifetime) (R : RattleType) {κ : Lft} {q : Share} {γ : GName} (ys : List (R .Denot)) (i : ℕ) (d : R .Denot) (b o : ℕ) → i < length ys
+      → ((ν : ℕ) (δ : GName) → Seq K W (‵ (MutRef ℓ (ν ∷ []) R .own (record { ptr = (b, place (mem R .size) o i); name = δ; now = getD ys i d }) (vptr b (place (mem R .size) o i) ∷ [])) ∷ ‵ (flft (ν ∷ []) fullShare) ∷ ‵ (LentElement R κ q γ ys i b o ν δ) ∷ Γ) G)
+      → Seq K W (‵ (fobs γ (codedHoleys R .code (heres R ys))) ∷ ‵ (fbor κ (Held R (length ys) b o γ)) ∷ ‵ (flft κ q) ∷ Γ) G
+  lends-element t z ℓ R ys i d b o l k =
+      opens-slice t z R ys b o $ use1 W (‵ (partAt R fullShare (getD ys i d) b (place (mem R .size) o i)) ⊛ ‵ (others (shares R) fullShare ys i b o)) (takes (shares R) fullShare 𝓤 H A W ys i d b o l) $ split t $
+      lft-new t z (λ ν. move t (1 ∷ []) $
+      use1 W (later (some (λ (δ : GName). ‵ (MutRef ℓ (ν ∷ []) R .own (record { ptr = (b, place (mem R .size) o i); name = δ; now = getD ys i d }) (vptr b (place (mem R .size) o i) ∷ [])) ⊛ ‵ (flent (ν ∷ []) (Body (mem R) b (place (mem R .size) o i) δ)))))
+      (lends-ref 𝓤 H A W R ℓ (ν ∷ []) (getD ys i d) b (place (mem R .size) o i)) $ await t z $ pick t (λ δ. split t $
+      -- [the reference; the lender's part; the token; the others; the open borrow; obs; auth]
+      move t (5 ∷ 6 ∷ []) $ fjoin t $ move t (5 ∷ 0 ∷ []) $ fjoin t $ move t (4 ∷ 0 ∷ []) $ fjoin t $ move t (2 ∷ 0 ∷ []) $ fjoin t $ move t (1 ∷ 2 ∷ []) $ k ν δ))
+
+  pub element-home : K → Soaks G → (R : RattleType) {κ : Lft} {q : Share} {γ : GName} (ys : List (R .Denot)) (i : ℕ) (y : R .Denot) (b o : ℕ) → i < length ys → (ν : ℕ) (δ : GName)
+      → Step K W (‵ (fobs γ (codedHoleys R .code (heres R (set ys i y)))) ∷ ‵ (fbor κ (Held R (length (set ys i y)) b o γ)) ∷ ‵ (flft κ q) ∷ Γ) G
+      (‵ (flft (ν ∷ []) fullShare) ∷ ‵ (LentElement R κ q γ ys i b o ν δ) ∷ ‵ (fres δ (R .coded .code y)) ∷ Γ) G
+  element-home t z R ys i y b o l ν δ = step (λ s. lft-end t z $ move t (1 ∷ []) $ fsplit t $ move t (2 ∷ 0 ∷ 3 ∷ []) $
+      use3 W (later (‵ (partAt R fullShare y b (place (mem R .size) o i)))) (ref-back 𝓤 H A W R (ν ∷ []) δ y b (place (mem R .size) o i)) $ await t z $
+      move t (1 ∷ []) $ fsplit t $ move t (2 ∷ 0 ∷ []) $ use2 W (‵ (index.row R fullShare (set ys i y) b o)) (puts (shares R) fullShare 𝓤 H A W ys i y b o l) $
+      move t (1 ∷ []) $ fsplit t $ move t (1 ∷ []) $ fsplit t $ move t (3 ∷ 2 ∷ 0 ∷ 1 ∷ []) $ closes-slice t z R ys (set ys i y) (length-set ys i y) b o $ s)
 
   -- a `&mut [R]` of n elements is lent on for the lifetime ν of a call, and comes home at the list that the call left
   pub lends-on : K → Soaks G → (ℓ ℓ′ : Lifetime) (R : RattleType) {κ : Lft} {q : Share} (γ : GName) (b o : ℕ) (ys : List (R .Denot)) (n : ℕ) → length ys ≡ n

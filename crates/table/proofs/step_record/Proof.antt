@@ -18,7 +18,7 @@ use Rattle.call.specs.Call.{Call}
 use Rattle.table.specs.Inside.{toldOf}
 use Rattle.table.specs.Lent.{Does, alone}
 use Rattle.table.specs.declared.Said.{Said}
-use Rattle.table.proofs.Promised.{step-alone}
+use Rattle.table.proofs.Promised.{told-alone}
 use Rattle.table.proofs.Machine.{machine, IsRecord, said-of, record-of, record-typed, said-typed, told-typed}
 use Rattle.table.proofs.Said as S
 use Rattle.table.proofs.Said.Laws as S′
@@ -115,7 +115,7 @@ module _ {M : Type 1} (𝓤 : URA M) (H : Heap 𝓤) (A : Atoms 𝓤) (W : Given
         closes-struct ! tt R.the-type R′.the-laws R′.the-plain (t .rec) (record-of t is-told) b o $
         returns ! (look ! 21 refl) $ frees-local ! 21 refl refl $ frees-local ! 19 refl refl $ frees-local ! 17 refl refl $ frees-local ! 15 refl refl $ frees-local ! 13 refl refl $ frees-local ! 11 refl refl $ frees-local ! 9 refl refl $ frees-local ! 7 refl refl $ free0 ! $
         keep ! (0 ∷ 1 ∷ 2 ∷ 5 ∷ 3 ∷ []) $
-        by ! (exits (t .said) _ (zs .0) (t .rec) (said-of t is-told) (step-alone ys h n t (zs .0) (e .0) (e .1)) l₁)))))))))))))))
+        by ! (exits (t .said) _ (zs .0) (t .rec) (said-of t is-told) (told-alone ys h (Call.step 0 n) t (zs .0) (e .0) (e .1)) l₁)))))))))))))))
 
 step-record-meets : {M : Type 1} (𝓤 : URA M) (H : Heap 𝓤) (A : Atoms 𝓤) (W : Given 𝓤 H A) (at-mem : Memory → SProp 𝓤) (run : Routine → Fun 𝓤) (𝓣 : Tables 𝓤 H) → Triple 𝓤 (𝓣 .C #table·step-told) (Telling 𝓤 H A at-mem run)
     → Meets 𝓤 H A step-record.signature (WpFn 𝓤 H (𝓣 .C) (𝓣 .Λ) code.function) (step-record.spec 𝓤 H A at-mem run)
