@@ -67,3 +67,9 @@ module _ {M : Type 1} (𝓤 : URA M) (H : Heap 𝓤) (A : Atoms 𝓤) (W : Given
 
   pub told-typed : (t : Told) → IsTold t → Holds (hasTy T′.mir (told-machine t)) × WT (told-machine t)
   told-typed t is = LL.lawful T.the-type T′.the-laws 𝓤 H A W .typed t _ is .0
+
+  pub told-said-typed : (t : Told) → IsTold t → Holds (hasTy S′.mir (said-machine (t .said))) × WT (said-machine (t .said))
+  told-said-typed t is = said-typed (t .said) (said-of t is)
+
+  pub told-rec-typed : (t : Told) → IsTold t → Holds (hasTy R′.mir (machine (t .rec))) × WT (machine (t .rec))
+  told-rec-typed t is = record-typed (t .rec) (record-of t is)

@@ -84,13 +84,13 @@ fn withdraw_gate(max: u32, parties: usize, party: u32) -> u32
     gated(max as usize + 2, false, parties, party)
 }
 
-// One record that is lent alone: taken out, handed to the call by value and stored again.
+// One record that is lent alone: read, handed to the call by value and stored again.
 pub fn step_record(strip: &mut [u64], r: &mut Record, hint: u32) -> Said
     ensures { λ s. ⌜ Does (now (strip .entry)) (alone (now (r .entry))) (step 0 hint) s (now (strip .exit)) (alone (now (r .exit))) ⌝ }
 {
-    let t = step_told(strip, *r, hint);
-    *r = t.rec;
-    t.said
+    let Told { said, rec } = step_told(strip, *r, hint);
+    *r = rec;
+    said
 }
 
 // The record of the numbered party, where it stands in the lent table. The others are as they were.
@@ -109,9 +109,9 @@ pub fn step_in(strip: &mut [u64], table: &mut [Record], party: u32, hint: u32) -
 pub fn start_record(max: u32, r: &mut Record, operation: u32, order: u32) -> Said
     ensures { λ s. ⌜ DoesAtMax max (alone (now (r .entry))) (start 0 operation order) s (alone (now (r .exit))) ⌝ }
 {
-    let t = start_told(max, *r, operation, order);
-    *r = t.rec;
-    t.said
+    let Told { said, rec } = start_told(max, *r, operation, order);
+    *r = rec;
+    said
 }
 
 pub fn start_in(max: u32, table: &mut [Record], party: u32, operation: u32, order: u32) -> Said
@@ -128,9 +128,9 @@ pub fn start_in(max: u32, table: &mut [Record], party: u32, operation: u32, orde
 pub fn withdraw_record(max: u32, r: &mut Record) -> Said
     ensures { λ s. ⌜ DoesAtMax max (alone (now (r .entry))) (withdraw 0) s (alone (now (r .exit))) ⌝ }
 {
-    let t = withdraw_told(max, *r);
-    *r = t.rec;
-    t.said
+    let Told { said, rec } = withdraw_told(max, *r);
+    *r = rec;
+    said
 }
 
 pub fn withdraw_in(max: u32, table: &mut [Record], party: u32) -> Said

@@ -19,7 +19,7 @@ use Rattle.table.specs.Inside.{toldOf}
 use Rattle.table.specs.Lent.{Does, alone}
 use Rattle.table.specs.declared.Said.{Said}
 use Rattle.table.proofs.Promised.{told-alone}
-use Rattle.table.proofs.Machine.{machine, IsRecord, said-of, record-of, record-typed, said-typed, told-typed}
+use Rattle.table.proofs.Machine.{machine, IsRecord, said-of, record-of, record-typed, told-typed, told-said-typed, told-rec-typed}
 use Rattle.table.proofs.Said as S
 use Rattle.table.proofs.Said.Laws as S′
 use Rattle.table.proofs.Told as T
@@ -93,29 +93,31 @@ module _ {M : Type 1} (𝓤 : URA M) (H : Heap 𝓤) (A : Atoms 𝓤) (W : Given
         split ! $ move ! (1 ∷ []) $ split ! $ move ! (3 ∷ []) $ fsplit ! $ move ! (1 ∷ []) $ fsplit ! $ fsplit3 ! $ keep ! (1 ∷ 2 ∷ 5 ∷ 4 ∷ 7 ∷ []) $
         -- [obs; the record's borrow; its token; the strip; its token]
         enter ! C Λ code.function (strip-val ∷ vptr b o ∷ vint w32 n ∷ []) _ $
-        alloc1 ! (λ l₀. alloc1 ! (λ l₁. alloc1 ! (λ l₂. alloc1 ! (λ l₃. alloc1 ! (λ l₄. alloc1 ! (λ l₅. alloc1 ! (λ l₆. alloc1 ! (λ l₇. alloc0 ! $ params1 ! $
-        pass1 ! (init ! 12 refl (tt, (tt, (record { fits = room₁ .0 }, tt)))) $ pass1 ! (init ! 10 refl (tt, tt)) $ pass1 ! (init ! 8 refl (tt, record { fits = n-fits })) $ pass0 ! $
-        -- [_7; …; _0; …; what was there], with _i at 2 · (7 − i)
-        assigns ! (addr ! (from ! (fld ! refl (hop ! (look-in ! 12 (sub ! 0 refl (whole !))) (stop !))))) (from ! (stop !)) (init ! 4 refl (tt, tt)) $
-        assigns ! (agg ! (and-then ! (load ! (from ! (stop !)) (look ! 4 refl)) (and-then ! (load ! (from ! (fld ! refl (stop !))) (look-in ! 12 (sub ! 1 refl (whole !)))) (no-more !)))) (from ! (stop !)) (init ! 2 refl (tt, (tt, (record { fits = room₁ .0 }, tt)))) $
-        move ! (16 ∷ 17 ∷ 18 ∷ []) $ opens-struct ! tt R.the-type R′.the-laws h b o (λ is.
-        -- [the record's cell; the open borrow; obs; auth; _7; …; _0; …; the strip; its token], with _i at 4 + 2 · (7 − i)
-        assigns ! (of-opd ! (load ! (from ! (hop ! (look ! 14 refl) (stop !))) (look-raw ! 0 refl))) (from ! (stop !)) (init ! 4 refl (record-typed 𝓤 H A W h is)) $
-        move ! (20 ∷ 21 ∷ []) $ use2 W (raw (Telling 𝓤 H A at-mem run .pre to-told)) (goes-told is) $
-        calls-at ! fm (Telling 𝓤 H A at-mem run) known-told to-told (and-then ! (load ! (from ! (stop !)) (look ! 7 refl)) (and-then ! (load ! (from ! (stop !)) (look ! 5 refl)) (and-then ! (load ! (from ! (stop !)) (look ! 13 refl)) (no-more !)))) (λ w′.
+        alloc1 ! (λ l₀. alloc1 ! (λ l₁. alloc1 ! (λ l₂. alloc1 ! (λ l₃. alloc1 ! (λ l₄. alloc1 ! (λ l₅. alloc1 ! (λ l₆. alloc1 ! (λ l₇. alloc1 ! (λ l₈. alloc1 ! (λ l₉. alloc0 ! $ params1 ! $
+        pass1 ! (init ! 16 refl (tt, (tt, (record { fits = room₁ .0 }, tt)))) $ pass1 ! (init ! 14 refl (tt, tt)) $ pass1 ! (init ! 12 refl (tt, record { fits = n-fits })) $ pass0 ! $
+        -- [_9; …; _0; …; what was there], with _i at 2 · (9 − i)
+        assigns ! (addr ! (from ! (fld ! refl (hop ! (look-in ! 16 (sub ! 0 refl (whole !))) (stop !))))) (from ! (stop !)) (init ! 4 refl (tt, tt)) $
+        assigns ! (agg ! (and-then ! (load ! (from ! (stop !)) (look ! 4 refl)) (and-then ! (load ! (from ! (fld ! refl (stop !))) (look-in ! 16 (sub ! 1 refl (whole !)))) (no-more !)))) (from ! (stop !)) (init ! 2 refl (tt, (tt, (record { fits = room₁ .0 }, tt)))) $
+        move ! (20 ∷ 21 ∷ 22 ∷ []) $ opens-struct ! tt R.the-type R′.the-laws h b o (λ is.
+        -- [the record's cell; the open borrow; obs; auth; _9; …; _0; …; the strip; its token], with _i at 4 + 2 · (9 − i)
+        assigns ! (of-opd ! (load ! (from ! (hop ! (look ! 18 refl) (stop !))) (look-raw ! 0 refl))) (from ! (stop !)) (init ! 4 refl (record-typed 𝓤 H A W h is)) $
+        move ! (24 ∷ 25 ∷ []) $ use2 W (raw (Telling 𝓤 H A at-mem run .pre to-told)) (goes-told is) $
+        calls-at ! fm (Telling 𝓤 H A at-mem run) known-told to-told (and-then ! (load ! (from ! (stop !)) (look ! 7 refl)) (and-then ! (load ! (from ! (stop !)) (look ! 5 refl)) (and-then ! (load ! (from ! (stop !)) (look ! 17 refl)) (no-more !)))) (λ w′.
         after-call ! tt step-told.ended (step-told.clauses 𝓤 H A at-mem run) to-told w′ (λ t zs.
         -- [the token; what is told; the last words; what is ensured; the record's cell; …]
         move ! (3 ∷ []) $ heard ! ((t ≡ toldOf (stepOf ys h n)) × (zs .0 ≡ stepLeaves ys h n)) (λ e. use1 W (‵ (flft κ₁ q₁) ⊛ ‵ ftrue) (id⊢ 𝓤 _) $ split ! $
         move ! (3 ∷ []) $ fsplit ! $ fsplit ! $ move ! (1 ∷ []) $ feqL ! (λ l₁. move ! (4 ∷ []) $ result-struct ! T.the-type T′.the-laws t w′ (λ is-told.
         move ! (4 ∷ 5 ∷ 6 ∷ 7 ∷ []) $
-        -- [the record's cell; …; auth; the last words; …; the strip's token; …; _7; …], with _i at 8 + 2 · (7 − i)
+        -- [the record's cell; …; auth; the last words; …; the strip's token; …; _9; …], with _i at 8 + 2 · (9 − i)
         land ! (from ! (stop !)) (init ! 14 refl (told-typed 𝓤 H A W t is-told)) $
-        assigns ! (of-opd ! (load ! (from ! (fld ! refl (stop !))) (look-in ! 14 (sub ! 1 refl (whole !))))) (from ! (hop ! (look ! 18 refl) (stop !))) (store-raw ! 0 refl (record-typed 𝓤 H A W (t .rec) (record-of t is-told))) $
-        assigns ! (of-opd ! (load ! (from ! (fld ! refl (stop !))) (look-in ! 14 (sub ! 0 refl (whole !))))) (from ! (stop !)) (init ! 22 refl (said-typed 𝓤 H A W (t .said) (said-of t is-told))) $
+        assigns ! (of-opd ! (load ! (from ! (fld ! refl (stop !))) (look-in ! 14 (sub ! 0 refl (whole !))))) (from ! (stop !)) (init ! 18 refl (told-said-typed 𝓤 H A W t is-told)) $
+        assigns ! (of-opd ! (load ! (from ! (fld ! refl (stop !))) (look-in ! 14 (sub ! 1 refl (whole !))))) (from ! (stop !)) (init ! 16 refl (told-rec-typed 𝓤 H A W t is-told)) $
+        assigns ! (of-opd ! (load ! (from ! (stop !)) (look ! 16 refl))) (from ! (hop ! (look ! 22 refl) (stop !))) (store-raw ! 0 refl (told-rec-typed 𝓤 H A W t is-told)) $
+        assigns ! (of-opd ! (load ! (from ! (stop !)) (look ! 18 refl))) (from ! (stop !)) (init ! 26 refl (told-said-typed 𝓤 H A W t is-told)) $
         closes-struct ! tt R.the-type R′.the-laws R′.the-plain (t .rec) (record-of t is-told) b o $
-        returns ! (look ! 21 refl) $ frees-local ! 21 refl refl $ frees-local ! 19 refl refl $ frees-local ! 17 refl refl $ frees-local ! 15 refl refl $ frees-local ! 13 refl refl $ frees-local ! 11 refl refl $ frees-local ! 9 refl refl $ frees-local ! 7 refl refl $ free0 ! $
+        returns ! (look ! 25 refl) $ frees-local ! 25 refl refl $ frees-local ! 23 refl refl $ frees-local ! 21 refl refl $ frees-local ! 19 refl refl $ frees-local ! 17 refl refl $ frees-local ! 15 refl refl $ frees-local ! 13 refl refl $ frees-local ! 11 refl refl $ frees-local ! 9 refl refl $ frees-local ! 7 refl refl $ free0 ! $
         keep ! (0 ∷ 1 ∷ 2 ∷ 5 ∷ 3 ∷ []) $
-        by ! (exits (t .said) _ (zs .0) (t .rec) (said-of t is-told) (told-alone ys h (Call.step 0 n) t (zs .0) (e .0) (e .1)) l₁)))))))))))))))
+        by ! (exits (t .said) _ (zs .0) (t .rec) (said-of t is-told) (told-alone ys h (Call.step 0 n) t (zs .0) (e .0) (e .1)) l₁)))))))))))))))))
 
 step-record-meets : {M : Type 1} (𝓤 : URA M) (H : Heap 𝓤) (A : Atoms 𝓤) (W : Given 𝓤 H A) (at-mem : Memory → SProp 𝓤) (run : Routine → Fun 𝓤) (𝓣 : Tables 𝓤 H) → Triple 𝓤 (𝓣 .C #table·step-told) (Telling 𝓤 H A at-mem run)
     → Meets 𝓤 H A step-record.signature (WpFn 𝓤 H (𝓣 .C) (𝓣 .Λ) code.function) (step-record.spec 𝓤 H A at-mem run)
