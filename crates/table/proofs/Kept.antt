@@ -20,19 +20,25 @@ use Rattle.step.proofs.Went.{GoneOn, Went, went}
 use Rattle.table.specs.Lent.{Does, DoesAtMax, alone, blank}
 use Rattle.table.specs.declared.Said.{Said}
 
+-- What is said is its number and its carried order.
+said-is : {one two : Said} → one .number ≡ two .number → one .carried ≡ two .carried → one ≡ two
+said-is number carried = λ i. record { number = number i; carried = carried i }
+
 module _ {strip : List ℕ} {table : List Record} {call : Call} where
   -- Two results that keep one promise say the same and leave the same words and records.
   pub two-that-keep-it-are-equal : {one two : Said} {words words′ : List ℕ} {left left′ : List Record}
       → Does strip table call one words left → Does strip table call two words′ left′ → (one ≡ two) × ((words ≡ words′) × (left ≡ left′))
-  two-that-keep-it-are-equal p q =
-      (p .says ∙ sym (q .says), (p .words-left ∙ sym (q .words-left), p .records-left ∙ sym (q .records-left)))
+  two-that-keep-it-are-equal p q = (
+    said-is (p .number-is ∙ sym (q .number-is)) (p .carried-is ∙ sym (q .carried-is)),
+    (p .words-left ∙ sym (q .words-left), p .records-left ∙ sym (q .records-left)),
+  )
 
   -- A refused call carries no order and leaves every word and every record.
   pub refused-changes-nothing : {said : Said} {words : List ℕ} {left : List Record} → Does strip table call said words left
       → isRefusal (said .number) ≡ true → (said .carried ≡ 0) × ((words ≡ strip) × (left ≡ table))
   refused-changes-nothing p refused =
-      let kept = refused-call-changes-nothing strip table call (ap (λ (s : Said). isRefusal (s .number)) (sym (p .says)) ∙ refused) in
-      (ap (λ (s : Said). s .carried) (p .says) ∙ kept .carried, (p .words-left ∙ kept .strip-kept, p .records-left ∙ kept .table-kept))
+      let kept = refused-call-changes-nothing strip table call (ap isRefusal (sym (p .number-is)) ∙ refused) in
+      (p .carried-is ∙ kept .carried, (p .words-left ∙ kept .strip-kept, p .records-left ∙ kept .table-kept))
 
   -- Every record but the numbered party's is as it was.
   pub others-stand : {said : Said} {words : List ℕ} {left : List Record} → Does strip table call said words left
@@ -84,14 +90,27 @@ module _ (strip strip′ : List ℕ) (table : List Record) (call : Call) (len : 
           → eqb (gate (length strip′) (length table) call) 0 ≡ eqb (gate (length strip) (length table) call) 0 → Does strip′ table call said strip′ left
       go true e same =
           let e′ = same ∙ e in
-          record { says = p .says ∙ simp (e, e′, own); words-left = simp (e′, kept); records-left = p .records-left ∙ simp (e, e′, own) }
+          record {
+            number-is = p .number-is ∙ simp (e, e′, own);
+            carried-is = p .carried-is ∙ simp (e, e′, own);
+            words-left = simp (e′, kept);
+            records-left = p .records-left ∙ simp (e, e′, own);
+          }
       go false e same =
           let e′ = same ∙ e in
-          record { says = p .says ∙ simp (e, e′, len); words-left = simp e′; records-left = p .records-left ∙ simp (e, e′) }
+          record {
+            number-is = p .number-is ∙ simp (e′, len);
+            carried-is = p .carried-is ∙ simp (e, e′);
+            words-left = simp e′;
+            records-left = p .records-left ∙ simp (e, e′);
+          }
+
+pub blank-words : (max : ℕ) → length (blank max) ≡ max + 2
+blank-words max = length-replicate (max + 2) 0
 
 module _ (max : ℕ) (strip : List ℕ) (words : length strip ≡ max + 2) (table : List Record) where
   same-length : length (blank max) ≡ length strip
-  same-length = length-replicate (max + 2) 0 ∙ sym words
+  same-length = blank-words max ∙ sym words
 
   pub any-strip-starts : (party operation order : ℕ) {said : Said} {left : List Record}
       → DoesAtMax max table (Call.start party operation order) said left → Does strip table (Call.start party operation order) said strip left

@@ -4,7 +4,7 @@ use Prim.Native.Nat.{ℕ, _+_, _<_}
 use mathlib.Core.Path.{_≡_, refl, sym, _∙_, ap, subst}
 use mathlib.Core.Bool.{Bool, true, false}
 use mathlib.Core.List.{List}
-use lib.ListN.{length, set, length-replicate}
+use lib.ListN.{length, set}
 use lib.Dec.{leb, ltb}
 use borrow.Author.Tests.{leb-true, leb-false, le-leb, lt-leb}
 use native.Mathlib.Omega.{arith}
@@ -17,7 +17,7 @@ use Rattle.table.specs.Lent.{Does, DoesAtMax, alone, blank}
 use Rattle.table.specs.Inside.{toldOf}
 use Rattle.table.specs.declared.Said.{Said}
 use Rattle.table.specs.declared.Told.{Told}
-use Rattle.table.proofs.Kept.{alone-one}
+use Rattle.table.proofs.Kept.{alone-one, blank-words}
 
 -- A strip fits where its MAX does.
 strip-fits-by-max : (words : ℕ) → maxFits (maxOf words) ≡ stripFits words
@@ -63,7 +63,12 @@ module _ (strip : List ℕ) (r : Record) where
       → Does strip (alone r) (ofFirst call) (t .said) words (alone (t .rec))
   told-alone call t words told left =
       let by-value = own-alone call in
-      record { says = simp (told, by-value); words-left = simp (left, by-value); records-left = simp (told, by-value) }
+      record {
+        number-is = simp (told, by-value);
+        carried-is = simp (told, by-value);
+        words-left = simp (left, by-value);
+        records-left = simp (told, by-value);
+      }
 
 -- ---- the numbered party's record in the table: the checks, by their number g
 module _ (strip : List ℕ) (table : List Record) (call : Call) (g : ℕ) (checked : g ≡ gate (length strip) (length table) call) where
@@ -74,7 +79,7 @@ module _ (strip : List ℕ) (table : List Record) (call : Call) (g : ℕ) (check
   pub turned-away : (g ≡ 0 → ⊥) → Does strip table call (record { number = g; carried = 0 }) strip table
   turned-away some =
       let away = call-away strip table call (λ none. some (checked ∙ none)) in
-      record { says = simp (checked, away); words-left = simp away; records-left = simp away }
+      record { number-is = simp (checked, away); carried-is = simp away; words-left = simp away; records-left = simp away }
 
   -- they pass: what is promised of the record alone
   pub in-place : g ≡ 0 → (said : Said) (words : List ℕ) (r : Record) → Does strip (alone (recordOf table call)) (ofFirst call) said words (alone r)
@@ -83,12 +88,14 @@ module _ (strip : List ℕ) (table : List Record) (call : Call) (g : ℕ) (check
       let by-value = own-alone strip (recordOf table call) call in
       let through = call-through strip table call (sym checked ∙ none) in
       let stored = alone-one (p .records-left ∙ ap (λ (l : Left). l .table) by-value) in
-      record { says = p .says ∙ simp (by-value, through); words-left = p .words-left ∙ simp (by-value, through); records-left = simp (stored, through) }
+      record {
+        number-is = p .number-is ∙ simp (by-value, through);
+        carried-is = p .carried-is ∙ simp (by-value, through);
+        words-left = p .words-left ∙ simp (by-value, through);
+        records-left = simp (stored, through);
+      }
 
 -- ---- start and withdraw are handed MAX, and no gate is handed all that its call has
-pub blank-words : (max : ℕ) → length (blank max) ≡ max + 2
-blank-words max = length-replicate (max + 2) 0
-
 blank-max : (max : ℕ) → max ≡ maxOf (length (blank max))
 blank-max max = rw blank-words (omega arith)
 

@@ -4,13 +4,14 @@ use mathlib.Core.Path.{_≡_}
 use mathlib.Core.List.{List, [], _∷_}
 use lib.ListN.{replicate}
 use Rattle.record.specs.declared.Record.{Record}
+use Rattle.party.specs.Answer.{numberOf, carriedOf}
 use Rattle.call.specs.Call.{Call, callOf}
-use Rattle.table.specs.Said.{saidOf}
 use Rattle.table.specs.declared.Said.{Said}
 
 -- the number and the carried order, every word of the strip and every record of the table
 pub record Does (strip : List ℕ) (table : List Record) (call : Call) (said : Said) (words : List ℕ) (left : List Record) : Type 0 where
-  pub says : said ≡ saidOf (callOf strip table call .answer)
+  pub number-is : said .number ≡ numberOf (callOf strip table call .answer)
+  pub carried-is : said .carried ≡ carriedOf (callOf strip table call .answer)
   pub words-left : words ≡ callOf strip table call .strip
   pub records-left : left ≡ callOf strip table call .table
 

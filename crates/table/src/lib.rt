@@ -10,9 +10,8 @@ ghost use Rattle.party.specs.Calls.{startOf, withdrawOf};
 ghost use Rattle.step.specs.Step.{stepOf, stepLeaves};
 ghost use Rattle.call.specs.Call.{gate};
 ghost use Rattle.call.specs.Call.Call.{start, step, withdraw};
-ghost use Rattle.table.specs.Said.{saidOf};
 ghost use Rattle.table.specs.Lent.{alone, Does, DoesAtMax};
-ghost use Rattle.table.specs.Inside.{toldOf};
+ghost use Rattle.table.specs.Inside.{saidOf, toldOf};
 
 // What a call says: document 01's number, and the carried order.
 pub struct Said {
