@@ -8,9 +8,9 @@
 --   2. A call of a covered function. Its `pre` is made of its arguments, from the last to the first: `nothing !`, then `with-u32`,
 --      `with-usize`, `with-struct` for each, then the tokens (`nothing !` and `join !`, or those that are lent on), then `frame !`.
 --      Of one that has a `requires`, `says` the fact first, then the tokens and `frame !`, then the arguments.
---      After `calls-at`: `after-plain-call` of a callee that was lent nothing, at the fact that it ensures; `after-call` of one that
---      was lent a slice for good: its last list is then in the context. Before `land`: `result-u32`, `result-unit`,
---      `result-struct`, which write the result's machine value out.
+--      After `calls-at`: `after-plain-call` of a callee that was lent nothing, at the fact that it ensures; `after-lent-call` of one
+--      that was lent something: its last value is then in the context (`after-call` leaves the fact there too). Before `land`:
+--      `result-u32`, `result-unit`, `result-struct`, which write the result's machine value out.
 --   3. `if c { return ..; }` is `guards`, the first arm ends in `returns-within`, and `some-number`, `no-number` say what `n != 0`
 --      tells. Both arms must end with the same things: `gives-up` a slice that only one arm lends on.
 --   4. One struct behind a `&mut`: `opens-struct` turns [obs; borrow; token] into [its cell; open borrow; obs; auth]; read the cell by
@@ -190,13 +190,22 @@ module _ {M : Type 1} {𝓤 : URA M} {H : Heap 𝓤} {A : Atoms 𝓤} {K : Type 
       ⊛ some (λ (ws : Lasts E (y .0 .0) (y .0 .3)). ‵ (lasts E (y .0 .0) (y .0 .3) ws) ⊛ raw (c (y .0 .0) (y .0 .3) .ensures (y .1) r (atExit E (y .0 .0) (y .0 .3) ws)))))) (id⊢ 𝓤 _) $
       await t z $ pick t (λ r. split t $ move t (1 ∷ []) $ pick t (λ ws. split t $ move t (2 ∷ []) $ split t $ k r ws))
 
+  -- with the fact φ that is ensured: [tokens; the result; the last values]
+  pub after-lent-call : K → Soaks G → (E : Ended) (c : Clauses 𝓤 E) (y : tripleOf 𝓤 H A (E .signature) (closing 𝓤 H A E c) .Ghost) (v : Val) (φ : Res (E .signature) (y .0 .0) → Lasts E (y .0 .0) (y .0 .3) → Type 0)
+      → ((r : Res (E .signature) (y .0 .0)) (ws : Lasts E (y .0 .0) (y .0 .3)) → ent 𝓤 (c (y .0 .0) (y .0 .3) .ensures (y .1) r (atExit E (y .0 .0) (y .0 .3) ws)) (fact 𝓤 (φ r ws)))
+      → ((r : Res (E .signature) (y .0 .0)) (ws : Lasts E (y .0 .0) (y .0 .3)) → φ r ws
+      → Seq K W (raw (alive 𝓤 H A (E .signature) (y .0 .0) (y .0 .1)) ∷ ‵ (typeAt (E .signature .result) (y .0 .0) .own r (v ∷ [])) ∷ ‵ (lasts E (y .0 .0) (y .0 .3) ws) ∷ Γ) G)
+      → Seq K W (raw (tripleOf 𝓤 H A (E .signature) (closing 𝓤 H A E c) .post y v) ∷ Γ) G
+  after-lent-call t z E c y v φ is k =
+      after-call t z E c y v (λ r ws. move t (3 ∷ []) $ use1 W (raw (fact 𝓤 (φ r ws))) (is r ws) $ heard t (φ r ws) (k r ws))
+
   -- of a callee that is lent nothing: the result, and the fact φ that is ensured of it
   pub after-plain-call : K → Soaks G → (E : Ended) (c : Clauses 𝓤 E) (y : tripleOf 𝓤 H A (E .signature) (closing 𝓤 H A E c) .Ghost) (v : Val) (φ : Res (E .signature) (y .0 .0) → Type 0)
       → ((r : Res (E .signature) (y .0 .0)) (ws : Lasts E (y .0 .0) (y .0 .3)) → ent 𝓤 (c (y .0 .0) (y .0 .3) .ensures (y .1) r (atExit E (y .0 .0) (y .0 .3) ws)) (fact 𝓤 (φ r)))
       → ((r : Res (E .signature) (y .0 .0)) → φ r → Seq K W (‵ (typeAt (E .signature .result) (y .0 .0) .own r (v ∷ [])) ∷ Γ) G)
       → Seq K W (raw (tripleOf 𝓤 H A (E .signature) (closing 𝓤 H A E c) .post y v) ∷ Γ) G
   after-plain-call t z E c y v φ is k =
-      after-call t z E c y v (λ r ws. drop t $ move t (2 ∷ []) $ use1 W (raw (fact 𝓤 (φ r))) (is r ws) $ heard t (φ r) (λ x. move t (1 ∷ []) $ drop t $ k r x))
+      after-lent-call t z E c y v (λ r ws. φ r) is (λ r ws x. drop t $ move t (1 ∷ []) $ drop t $ k r x)
 
 dies-out : {M : Type 1} (𝓤 : URA M) (H : Heap 𝓤) (A : Atoms 𝓤) (Γ : List (Item 𝓤)) (n : ℕ) {τ : Ty} {b : ℕ} → nth 𝓤 H A n (del 𝓤 H A n Γ) ≡ ‵ (fdies τ b) → ent 𝓤 (⋆ 𝓤 H A (del 𝓤 H A n Γ)) (⋆ 𝓤 H A (‵ (fdies τ b) ∷ del 𝓤 H A n (del 𝓤 H A n Γ)))
 dies-out 𝓤 H A Γ n {τ} {b} d =

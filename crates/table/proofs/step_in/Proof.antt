@@ -8,9 +8,9 @@ use Rattle.walks.proofs.Prelude.{_≡_, refl, sym, List, [], _∷_, URA, fullSh
 use Rattle.walks.proofs.Prelude.{GName, Lft, Share, ftrue, flft, fobs, fbor, fat, finally, Memory, Routine, Heap, Calls, Loops, WpFn, Tables, Atoms, Fun, givenOf, tables, tablesOf}
 use Rattle.walks.proofs.Prelude.{Given, ‵, raw, ⋆, _⊛_, _$_, _∵_, !, qed, by, move, keep, use0, use1, use3, split, join, rewrite, fsplit, fjoin, feqL, suffices, frame, done}
 use Rattle.walks.proofs.Prelude.{look, store, init, stop, hop, fld, from, load, lit, addr, of-opd, un, bin, and-then, no-more, assigns, land, returns, returns-within, enter, alloc1, alloc0, params1, pass1, pass0, free0, agg, whole, sub, look-in}
-use Rattle.walks.proofs.Prelude.{FmC, fmOf, WpFn-mono, owns, Is, uint-vals, uint-tells, u32, u64, RefT, MutRef, MutSlice, sliceVal, slice-vals, mut-slice-tells, Room, Held, heres, codedHoleys, place-is, plain, owned, heard, nothing}
+use Rattle.walks.proofs.Prelude.{FmC, fmOf, WpFn-mono, owns, Is, uint-vals, uint-tells, u32, u64, RefT, MutRef, MutSlice, sliceVal, slice-vals, mut-slice-tells, Room, Held, heres, codedHoleys, place-is, plain, owned, nothing}
 use Rattle.walks.proofs.Prelude.{onEntry, Meets, tripleOf, Contract, Triple, calls-at, entered, cited, says, Stays, gave-slice, stay-slice, stay-none, walkOf, goes-none, goes-slice, goes-gave-slice, ends-at, walked, walk-meets, yes, scaled-fits}
-use Rattle.walks.proofs.Steps.{lends-element, element-home, gives-up, after-call, after-plain-call, guards, frees-local, frees-room, with-u32, with-usize, keeps-slice, result-u32, result-struct, some-number, no-number, widens}
+use Rattle.walks.proofs.Steps.{lends-element, element-home, gives-up, after-lent-call, after-plain-call, guards, frees-local, frees-room, with-u32, with-usize, keeps-slice, result-u32, result-struct, some-number, no-number, widens}
 use Rattle.record.specs.declared.Record.{Record}
 use Rattle.record.specs.Record.{idle}
 use Rattle.record.proofs.Record as R
@@ -140,16 +140,16 @@ module _ {M : Type 1} (𝓤 : URA M) (H : Heap 𝓤) (A : Atoms 𝓤) (W : Given
         move ! (32 ∷ 1 ∷ []) $ join ! $ move ! (31 ∷ 1 ∷ 0 ∷ []) $ use3 W (raw (Doing 𝓤 H A at-mem run .pre (to-record ν δ))) (goes-record ν δ) $
         -- [what is handed over; what is kept of the table; _13; …], with _i at 2 + 2 · (13 − i)
         calls-at ! fm (Doing 𝓤 H A at-mem run) known-record (to-record ν δ) (and-then ! (load ! (from ! (stop !)) (look ! 6 refl)) (and-then ! (load ! (from ! (stop !)) (look ! 2 refl)) (and-then ! (load ! (from ! (stop !)) (look ! 20 refl)) (no-more !)))) (λ w′.
-        after-call ! tt step-record.ended (step-record.clauses 𝓤 H A at-mem run) (to-record ν δ) w′ (λ s zs.
-        -- [the tokens; what is said; the last words and the last record; what is ensured; what is kept of the table; …]
-        move ! (3 ∷ []) $ heard ! (Does ys (alone r) (Call.step 0 n) s (zs .0) (alone (zs .1 .0))) (λ does. use1 W (‵ (flft κ₁ q₁) ⊛ (‵ (flft (ν ∷ []) fullShare) ⊛ ‵ ftrue)) (id⊢ 𝓤 _) $ split ! $ move ! (1 ∷ []) $ split ! $
+        after-lent-call ! tt step-record.ended (step-record.clauses 𝓤 H A at-mem run) (to-record ν δ) w′ (λ s zs. Does ys (alone r) (Call.step 0 n) s (zs .0) (alone (zs .1 .0))) (λ s zs. id⊢ 𝓤 _) (λ s zs does.
+        -- [the tokens; what is said; the last words and the last record; what is kept of the table; …]
+        use1 W (‵ (flft κ₁ q₁) ⊛ (‵ (flft (ν ∷ []) fullShare) ⊛ ‵ ftrue)) (id⊢ 𝓤 _) $ split ! $ move ! (1 ∷ []) $ split ! $
         move ! (4 ∷ []) $ fsplit ! $ fsplit ! $ move ! (1 ∷ []) $ feqL ! (λ l₁. move ! (1 ∷ []) $ fsplit ! $ move ! (6 ∷ []) $ result-struct ! S.the-type S′.the-laws s w′ (λ is-said.
         -- [the last record; …; the last words; its token; …; the strip's token; what is kept of the table; _13; …], with _i at 7 + 2 · (13 − i)
         land ! (from ! (stop !)) (init ! 33 refl (said-typed 𝓤 H A W s is-said)) $
         move ! (3 ∷ 6 ∷ 0 ∷ []) $ element-home ! tt R.the-row ts p (zs .1 .0) b o inside ν δ $
         returns ! (look ! 33 refl) $ frees-local ! 33 refl refl $ frees-local ! 31 refl refl $ frees-local ! 29 refl refl $ frees-local ! 27 refl refl $ frees-local ! 25 refl refl $ frees-local ! 23 refl refl $ frees-local ! 21 refl refl $ frees-local ! 19 refl refl $ frees-local ! 17 refl refl $ frees-local ! 15 refl refl $ frees-local ! 13 refl refl $ frees-local ! 11 refl refl $ frees-local ! 9 refl refl $ frees-local ! 7 refl refl $ free0 ! $
         keep ! (0 ∷ 1 ∷ 2 ∷ 6 ∷ 4 ∷ []) $
-        by ! (exits s _ (zs .0) (set ts p (zs .1 .0)) is-said (in-place ys ts (Call.step p n) g known (no-number g passes) s (zs .0) (zs .1 .0) does) l₁ (length-set ts p (zs .1 .0)))))))))))))))))))))))))))
+        by ! (exits s _ (zs .0) (set ts p (zs .1 .0)) is-said (in-place ys ts (Call.step p n) g known (no-number g passes) s (zs .0) (zs .1 .0) does) l₁ (length-set ts p (zs .1 .0))))))))))))))))))))))))))
 
 step-in-meets : {M : Type 1} (𝓤 : URA M) (H : Heap 𝓤) (A : Atoms 𝓤) (W : Given 𝓤 H A) (at-mem : Memory → SProp 𝓤) (run : Routine → Fun 𝓤) (𝓣 : Tables 𝓤 H) → Triple 𝓤 (𝓣 .C #table·step-gate) (Gate 𝓤 H A at-mem run) → Triple 𝓤 (𝓣 .C #table·step-record) (Doing 𝓤 H A at-mem run)
     → Meets 𝓤 H A step-in.signature (WpFn 𝓤 H (𝓣 .C) (𝓣 .Λ) code.function) (step-in.spec 𝓤 H A at-mem run)

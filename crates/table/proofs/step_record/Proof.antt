@@ -7,9 +7,9 @@ use Rattle.walks.proofs.Prelude.{_≡_, refl, List, [], _∷_, URA, named, w32,
 use Rattle.walks.proofs.Prelude.{GName, Lft, Share, ftrue, flft, fobs, fbor, finally, Memory, Routine, Heap, Calls, Loops, WpFn, Tables, Atoms, sem, Fun, givenOf, tables, tablesOf}
 use Rattle.walks.proofs.Prelude.{Given, ‵, raw, ⋆, _⊛_, _$_, _∵_, !, qed, by, move, keep, use1, use2, split, join, fsplit, fsplit3, fjoin, feqL, suffices, frame, done}
 use Rattle.walks.proofs.Prelude.{look, look-raw, store-raw, init, stop, hop, fld, from, load, addr, of-opd, and-then, no-more, assigns, land, returns, enter, alloc1, alloc0, params1, pass1, pass0, free0, agg, whole, sub, look-in}
-use Rattle.walks.proofs.Prelude.{FmC, fmOf, WpFn-mono, owns, Is, Body, mem, uint-vals, uint-tells, u32, u64, RefT, MutRef, MutSlice, sliceVal, slice-vals, ptr-vals, mut-tells, mut-slice-tells, Room, plain, owned, heard, nothing}
+use Rattle.walks.proofs.Prelude.{FmC, fmOf, WpFn-mono, owns, Is, Body, mem, uint-vals, uint-tells, u32, u64, RefT, MutRef, MutSlice, sliceVal, slice-vals, ptr-vals, mut-tells, mut-slice-tells, Room, plain, owned, nothing}
 use Rattle.walks.proofs.Prelude.{onEntry, Meets, tripleOf, Contract, Triple, calls-at, entered, cited, says, Stays, gave-slice, stay-ref, stay-none, walkOf, goes-none, goes-ref, goes-gave-slice, ends-at, walked, walk-meets, yes}
-use Rattle.walks.proofs.Steps.{opens-struct, closes-struct, after-call, frees-local, with-u32, with-struct, keeps-ref, result-struct}
+use Rattle.walks.proofs.Steps.{opens-struct, closes-struct, after-lent-call, frees-local, with-u32, with-struct, keeps-ref, result-struct}
 use Rattle.record.specs.declared.Record.{Record}
 use Rattle.record.proofs.Record as R
 use Rattle.record.proofs.Record.Laws as R′
@@ -103,9 +103,9 @@ module _ {M : Type 1} (𝓤 : URA M) (H : Heap 𝓤) (A : Atoms 𝓤) (W : Given
         assigns ! (of-opd ! (load ! (from ! (hop ! (look ! 18 refl) (stop !))) (look-raw ! 0 refl))) (from ! (stop !)) (init ! 4 refl (record-typed 𝓤 H A W h is)) $
         move ! (24 ∷ 25 ∷ []) $ use2 W (raw (Telling 𝓤 H A at-mem run .pre to-told)) (goes-told is) $
         calls-at ! fm (Telling 𝓤 H A at-mem run) known-told to-told (and-then ! (load ! (from ! (stop !)) (look ! 7 refl)) (and-then ! (load ! (from ! (stop !)) (look ! 5 refl)) (and-then ! (load ! (from ! (stop !)) (look ! 17 refl)) (no-more !)))) (λ w′.
-        after-call ! tt step-told.ended (step-told.clauses 𝓤 H A at-mem run) to-told w′ (λ t zs.
-        -- [the token; what is told; the last words; what is ensured; the record's cell; …]
-        move ! (3 ∷ []) $ heard ! ((t ≡ toldOf (stepOf ys h n)) × (zs .0 ≡ stepLeaves ys h n)) (λ e. use1 W (‵ (flft κ₁ q₁) ⊛ ‵ ftrue) (id⊢ 𝓤 _) $ split ! $
+        after-lent-call ! tt step-told.ended (step-told.clauses 𝓤 H A at-mem run) to-told w′ (λ t zs. (t ≡ toldOf (stepOf ys h n)) × (zs .0 ≡ stepLeaves ys h n)) (λ t zs. id⊢ 𝓤 _) (λ t zs e.
+        -- [the token; what is told; the last words; the record's cell; …]
+        use1 W (‵ (flft κ₁ q₁) ⊛ ‵ ftrue) (id⊢ 𝓤 _) $ split ! $
         move ! (3 ∷ []) $ fsplit ! $ fsplit ! $ move ! (1 ∷ []) $ feqL ! (λ l₁. move ! (4 ∷ []) $ result-struct ! T.the-type T′.the-laws t w′ (λ is-told.
         move ! (4 ∷ 5 ∷ 6 ∷ 7 ∷ []) $
         -- [the record's cell; …; auth; the last words; …; the strip's token; …; _9; …], with _i at 8 + 2 · (9 − i)
@@ -117,7 +117,7 @@ module _ {M : Type 1} (𝓤 : URA M) (H : Heap 𝓤) (A : Atoms 𝓤) (W : Given
         closes-struct ! tt R.the-type R′.the-laws R′.the-plain (t .rec) (record-of t is-told) b o $
         returns ! (look ! 25 refl) $ frees-local ! 25 refl refl $ frees-local ! 23 refl refl $ frees-local ! 21 refl refl $ frees-local ! 19 refl refl $ frees-local ! 17 refl refl $ frees-local ! 15 refl refl $ frees-local ! 13 refl refl $ frees-local ! 11 refl refl $ frees-local ! 9 refl refl $ frees-local ! 7 refl refl $ free0 ! $
         keep ! (0 ∷ 1 ∷ 2 ∷ 5 ∷ 3 ∷ []) $
-        by ! (exits (t .said) _ (zs .0) (t .rec) (said-of t is-told) (told-alone ys h (Call.step 0 n) t (zs .0) (e .0) (e .1)) l₁)))))))))))))))))
+        by ! (exits (t .said) _ (zs .0) (t .rec) (said-of t is-told) (told-alone ys h (Call.step 0 n) t (zs .0) (e .0) (e .1)) l₁))))))))))))))))
 
 step-record-meets : {M : Type 1} (𝓤 : URA M) (H : Heap 𝓤) (A : Atoms 𝓤) (W : Given 𝓤 H A) (at-mem : Memory → SProp 𝓤) (run : Routine → Fun 𝓤) (𝓣 : Tables 𝓤 H) → Triple 𝓤 (𝓣 .C #table·step-told) (Telling 𝓤 H A at-mem run)
     → Meets 𝓤 H A step-record.signature (WpFn 𝓤 H (𝓣 .C) (𝓣 .Λ) code.function) (step-record.spec 𝓤 H A at-mem run)
