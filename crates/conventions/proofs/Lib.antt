@@ -1,2 +1,3 @@
 pub mod Conventions
+pub mod Promised
 pub mod Spelled

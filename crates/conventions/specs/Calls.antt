@@ -1,7 +1,7 @@
 -- Start, step and withdraw: their refusals in document 01's order. In each list all is wrong at first, and each row mends what the row
 -- before was refused for: so each refusal is seen to come before all that follow it.
 use Prim.Native.Nat.{ℕ}
-use mathlib.Core.List.{List, [], _∷_, _++_}
+use mathlib.Core.List.{List, [], _∷_}
 use lib.ListN.{replicate}
 use Rattle.record.specs.declared.Record.{Record}
 use Rattle.record.specs.Record.{idle, begun}
@@ -96,6 +96,3 @@ tables =
     ∷ called fresh table (withdraw 3) is 6
     ∷ called fresh table (withdraw 2) is 0
     ∷ []
-
-abbrev pub calls : List Case
-calls = starts ++ (withdrawals ++ (steps ++ tables))

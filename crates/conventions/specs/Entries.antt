@@ -1,6 +1,6 @@
 -- An entry of a schedule on its party's record: act, party, operation, a zero byte, a 32-bit number.
 use Prim.Native.Nat.{ℕ}
-use mathlib.Core.List.{List, [], _∷_, _++_}
+use mathlib.Core.List.{List, [], _∷_}
 use Rattle.record.specs.declared.Record.{Record}
 use Rattle.record.specs.Record.{idle}
 use Rattle.party.specs.Answer.{numberOf}
@@ -52,6 +52,3 @@ order =
     ∷ entered fresh soiled 2 1 0 0 0 is 4
     ∷ entered fresh idle 2 1 0 0 0 is 6
     ∷ []
-
-abbrev pub entries : List Case
-entries = fields ++ (wide ++ order)

@@ -114,6 +114,3 @@ writes =
     ∷ writeRefusal 168 4 table is 4
     ∷ writeRefusal 168 4 (idle ∷ busy ∷ busy ∷ idle ∷ []) is 0
     ∷ []
-
-abbrev pub images : List Case
-images = headers ++ (named ++ (lays ++ (reads ++ writes)))

@@ -93,6 +93,3 @@ swapStage stage =
     ∷ ok 2 stage 1 3 5 6
     ∷ ok 2 stage 2 3 5 6
     ∷ [])
-
-abbrev pub records : List Case
-records = stage0 ++ (operations ++ (stage1 ++ (stage2 ++ (stage3 ++ (swapStage 4 ++ swapStage 5)))))

@@ -1,6 +1,6 @@
 -- Lay, measure and find; and value 2, which is reserved: no order to measure, not null to a step.
 use Prim.Native.Nat.{ℕ}
-use mathlib.Core.List.{List, [], _∷_, _++_}
+use mathlib.Core.List.{List, [], _∷_}
 use lib.ListN.{length}
 use Rattle.record.specs.declared.Record.{Record}
 use Rattle.party.specs.Answer.{numberOf, carriedOf}
@@ -77,6 +77,3 @@ twos =
     ∷ numberOf (stepOf reserved (rec 1 5 2 0 (2 · 0) (1 · 0)) 0 .answer) is 17
     ∷ carriedOf (stepOf reserved (rec 1 5 2 0 (2 · 0) (1 · 0)) 0 .answer) is 2
     ∷ []
-
-abbrev pub strips : List Case
-strips = lays ++ (measures ++ (finds ++ twos))
