@@ -6,9 +6,9 @@ use Rattle.walks.proofs.Prelude.{_≡_, refl, List, [], _∷_, lit<, URA, named
 use Rattle.walks.proofs.Prelude.{GName, Lft, Share, ftrue, flft, finally, Memory, Routine, Heap, Calls, Loops, WpFn, Tables, Atoms, sem, Fun, givenOf, tables, tablesOf}
 use Rattle.walks.proofs.Prelude.{Given, ‵, raw, ⋆, _⊛_, _$_, _∵_, !, qed, by, move, keep, drop, use1, use2, use3, split, join, fsplit, fjoin, feqL, suffices, frame, done}
 use Rattle.walks.proofs.Prelude.{look, store, init, stop, hop, fld, from, load, lit, addr, of-opd, bin, and-then, no-more, assigns, land, returns, returns-within, enter, alloc1, alloc0, params1, pass1, pass0, free0, agg, whole, sub, look-in}
-use Rattle.walks.proofs.Prelude.{FmC, fmOf, WpFn-mono, owns, Is, uint-makes, u8, u32, u64, RefT, MutSlice, ShrSlice, shr-slice-tells, sliceVal, slice-vals, mut-slice-tells, Room, plain, shrSliceOf, owned, heard, nothing}
+use Rattle.walks.proofs.Prelude.{FmC, fmOf, WpFn-mono, owns, Is, uint-makes, u8, u32, u64, RefT, MutSlice, ShrSlice, shr-slice-tells, sliceVal, slice-vals, mut-slice-tells, Room, plain, shrSliceOf, owned, nothing}
 use Rattle.walks.proofs.Prelude.{onEntry, Meets, tripleOf, Contract, Triple, calls-at, entered, cited, says, Stays, stay-dropped, gave-slice, walkOf, goes-dropped, goes-gave-slice, ends-at, walked, walk-meets, yes}
-use Rattle.walks.proofs.Steps.{shares-on, gives-up, after-call, guards, frees-local, frees-room, with-usize, result-u32, result-unit, some-number, no-number}
+use Rattle.walks.proofs.Steps.{shares-on, gives-up, after-lent-call, guards, frees-local, frees-room, with-usize, result-u32, result-unit, some-number, no-number}
 use Rattle.record.specs.declared.Record.{Record}
 use Rattle.record.proofs.Record as R
 use Rattle.format.specs.Format.{wordPlace, wordsBase}
@@ -134,8 +134,8 @@ module _ {M : Type 1} (𝓤 : URA M) (H : Heap 𝓤) (A : Atoms 𝓤) (W : Given
         assigns ! (of-opd ! (load ! (from ! (fld ! refl (stop !))) (look-in ! 24 (sub ! 1 refl (whole !))))) (from ! (stop !)) (init ! 18 refl (tt, record { fits = room₂ .0 })) $
         shares-on ! (named 0) κ₀ u8 image (image-val ∷ []) $ move ! (0 ∷ 2 ∷ []) $ use2 W (raw (Refusal 𝓤 H A at-mem run .pre to-refusal)) goes-refusal $
         calls-at ! fm (Refusal 𝓤 H A at-mem run) known-refusal to-refusal (and-then ! (load ! (from ! (stop !)) (look ! 28 refl)) (and-then ! (load ! (from ! (stop !)) (look ! 20 refl)) (and-then ! (load ! (from ! (stop !)) (look ! 18 refl)) (no-more !)))) (λ w.
-        after-call ! tt read-refusal.ended (read-refusal.clauses 𝓤 H A at-mem run) to-refusal w (λ n ns.
-        move ! (3 ∷ []) $ heard ! (n ≡ readRefusal xs (length ys) (length ts)) (λ checked. use1 W (‵ (flft κ₀ q₀) ⊛ ‵ ftrue) (id⊢ 𝓤 _) $ split ! $ move ! (2 ∷ []) $ result-u32 ! n w (λ n-fits.
+        after-lent-call ! tt read-refusal.ended (read-refusal.clauses 𝓤 H A at-mem run) to-refusal w (λ n ns. n ≡ readRefusal xs (length ys) (length ts)) (λ n ns. id⊢ 𝓤 _) (λ n ns checked.
+        use1 W (‵ (flft κ₀ q₀) ⊛ ‵ ftrue) (id⊢ 𝓤 _) $ split ! $ move ! (2 ∷ []) $ result-u32 ! n w (λ n-fits.
         move ! (1 ∷ []) $ drop ! $ move ! (1 ∷ []) $ drop ! $
         -- [the image's token; the image; the strip; its token; the table; its token; _12; …]
         land ! (from ! (stop !)) (init ! 22 refl (tt, record { fits = n-fits })) $
@@ -151,8 +151,8 @@ module _ {M : Type 1} (𝓤 : URA M) (H : Heap 𝓤) (A : Atoms 𝓤) (W : Given
         move ! (2 ∷ 3 ∷ []) $ join ! $ move ! (2 ∷ []) $ shares-on ! (named 0) κ₀ u8 image (image-val ∷ []) $ move ! (0 ∷ 3 ∷ 2 ∷ []) $ use3 W (raw (Words 𝓤 H A at-mem run .pre to-words)) (goes-words (words-inside xs ys ts n checked none)) $
         -- [the call; the image; the table; its token; _12; …], with _i at 4 + 2 · (12 − i)
         calls-at ! fm (Words 𝓤 H A at-mem run) known-words to-words (and-then ! (load ! (from ! (stop !)) (look ! 26 refl)) (and-then ! (load ! (from ! (stop !)) (look ! 8 refl)) (no-more !))) (λ w₁.
-        after-call ! tt read-strip.ended (read-strip.clauses 𝓤 H A at-mem run) to-words w₁ (λ u₁ zs.
-        move ! (3 ∷ []) $ heard ! (zs .1 .0 ≡ wordsFrom xs wordsBase (length ys)) (λ e₁. use1 W (‵ (flft κ₀ q₀) ⊛ (‵ (flft κ₁ q₁) ⊛ ‵ ftrue)) (id⊢ 𝓤 _) $ split ! $ move ! (1 ∷ []) $ split ! $
+        after-lent-call ! tt read-strip.ended (read-strip.clauses 𝓤 H A at-mem run) to-words w₁ (λ u₁ zs. zs .1 .0 ≡ wordsFrom xs wordsBase (length ys)) (λ u₁ zs. id⊢ 𝓤 _) (λ u₁ zs e₁.
+        use1 W (‵ (flft κ₀ q₀) ⊛ (‵ (flft κ₁ q₁) ⊛ ‵ ftrue)) (id⊢ 𝓤 _) $ split ! $ move ! (1 ∷ []) $ split ! $
         -- [the strip's token; true; the image's token; the result; the last words; the image; …]
         move ! (4 ∷ []) $ fsplit ! $ move ! (1 ∷ []) $ fsplit ! $ fsplit ! $ move ! (1 ∷ []) $ feqL ! (λ l₁. move ! (6 ∷ []) $ result-unit ! w₁ $
         move ! (1 ∷ []) $ drop ! $ move ! (1 ∷ []) $ drop ! $ move ! (2 ∷ []) $ drop ! $
@@ -164,15 +164,15 @@ module _ {M : Type 1} (𝓤 : URA M) (H : Heap 𝓤) (A : Atoms 𝓤) (W : Given
         move ! (4 ∷ 5 ∷ []) $ join ! $ move ! (4 ∷ 3 ∷ 0 ∷ []) $ use3 W (raw (Records 𝓤 H A at-mem run .pre to-records)) (goes-records (records-inside xs ys ts n checked none)) $
         -- [the call; the last words; the strip's token; _12; …], with _i at 3 + 2 · (12 − i)
         calls-at ! fm (Records 𝓤 H A at-mem run) known-records to-records (and-then ! (load ! (from ! (stop !)) (look ! 25 refl)) (and-then ! (load ! (from ! (stop !)) (look ! 17 refl)) (and-then ! (load ! (from ! (stop !)) (look ! 3 refl)) (no-more !)))) (λ w₂.
-        after-call ! tt read-table.ended (read-table.clauses 𝓤 H A at-mem run) to-records w₂ (λ u₂ rs.
-        move ! (3 ∷ []) $ heard ! (rs .1 .1 .0 ≡ recordsFrom (versionAt xs) xs (wordPlace wordsBase (length ys)) (length ts)) (λ e₂. use1 W (‵ (flft κ₀ q₀) ⊛ (‵ (flft κ₂ q₂) ⊛ ‵ ftrue)) (id⊢ 𝓤 _) $ split ! $ move ! (1 ∷ []) $ split ! $
+        after-lent-call ! tt read-table.ended (read-table.clauses 𝓤 H A at-mem run) to-records w₂ (λ u₂ rs. rs .1 .1 .0 ≡ recordsFrom (versionAt xs) xs (wordPlace wordsBase (length ys)) (length ts)) (λ u₂ rs. id⊢ 𝓤 _) (λ u₂ rs e₂.
+        use1 W (‵ (flft κ₀ q₀) ⊛ (‵ (flft κ₂ q₂) ⊛ ‵ ftrue)) (id⊢ 𝓤 _) $ split ! $ move ! (1 ∷ []) $ split ! $
         move ! (4 ∷ []) $ fsplit ! $ move ! (1 ∷ []) $ fsplit ! $ move ! (1 ∷ []) $ fsplit ! $ fsplit ! $ move ! (1 ∷ []) $ feqL ! (λ l₂. move ! (7 ∷ []) $ result-unit ! w₂ $
         move ! (7 ∷ 0 ∷ 6 ∷ 8 ∷ 4 ∷ []) $
         -- [the last words; the last records; the three tokens; …; _12; …], with _i at 9 + 2 · (12 − i)
         land ! (from ! (stop !)) (store ! 17 refl (tt, tt)) $
         assigns ! (of-opd ! (lit ! tt)) (from ! (stop !)) (init ! 33 refl (tt, record { fits = lit< tt })) $
         returns ! (look ! 33 refl) $ frees-local ! 33 refl refl $ frees-local ! 31 refl refl $ frees-local ! 29 refl refl $ frees-local ! 27 refl refl $ frees-local ! 25 refl refl $ frees-local ! 23 refl refl $ frees-local ! 21 refl refl $ frees-local ! 19 refl refl $ frees-local ! 17 refl refl $ frees-local ! 15 refl refl $ frees-local ! 13 refl refl $ frees-local ! 11 refl refl $ frees-local ! 9 refl refl $ free0 ! $
-        keep ! (0 ∷ 1 ∷ 2 ∷ 3 ∷ 4 ∷ []) $ by ! (exits 0 (lit< tt) (zs .1 .0) (rs .1 .1 .0) (read-done xs ys ts n checked none (zs .1 .0) (rs .1 .1 .0) e₁ e₂) l₁ l₂)))))))))))))))))))))))))))
+        keep ! (0 ∷ 1 ∷ 2 ∷ 3 ∷ 4 ∷ []) $ by ! (exits 0 (lit< tt) (zs .1 .0) (rs .1 .1 .0) (read-done xs ys ts n checked none (zs .1 .0) (rs .1 .1 .0) e₁ e₂) l₁ l₂))))))))))))))))))))))))
 
 read-meets : {M : Type 1} (𝓤 : URA M) (H : Heap 𝓤) (A : Atoms 𝓤) (W : Given 𝓤 H A) (at-mem : Memory → SProp 𝓤) (run : Routine → Fun 𝓤) (𝓣 : Tables 𝓤 H) → Triple 𝓤 (𝓣 .C #pieces·read-refusal) (Refusal 𝓤 H A at-mem run)
     → Triple 𝓤 (𝓣 .C #pieces·read-strip) (Words 𝓤 H A at-mem run) → Triple 𝓤 (𝓣 .C #whole·read-table) (Records 𝓤 H A at-mem run) → Meets 𝓤 H A read.signature (WpFn 𝓤 H (𝓣 .C) (𝓣 .Λ) code.function) (read.spec 𝓤 H A at-mem run)

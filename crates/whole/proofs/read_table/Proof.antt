@@ -7,9 +7,9 @@ use Rattle.walks.proofs.Prelude.{_≡_, refl, sym, subst, List, [], _∷_, zero
 use Rattle.walks.proofs.Prelude.{GName, Lft, Share, ftrue, flft, fobs, fbor, fat, froom, fdies, Memory, Routine, Heap, Out, Env, Calls, Loops, Wp, WpFn, Tables, atReturn, afterSeq, afterBlock, afterTurn, Atoms, sem, Fun, givenOf, tables, tablesOf}
 use Rattle.walks.proofs.Prelude.{Given, Item, ‵, raw, ⋆, runs, anyQ, atRet, Sq, _⊛_, _$_, _∵_, !, qed, by, move, keep, drop, use1, use2, split, join, rewrite, fsplit, fjoin, feqI, suffices, frame, done}
 use Rattle.walks.proofs.Prelude.{look, store, store-raw, init, stop, hop, fld, from, load, lit, of-opd, bin, unit-lit, and-then, no-more, assigns, assigns-last, first, blocks, exec, Below, again, loops, forget, land, returns, enter, alloc1, alloc0, params1, pass1, pass0, free0, whole, sub, look-in}
-use Rattle.walks.proofs.Prelude.{fmOf, WpFn-mono, owns, uint-vals, uint-tells, u8, usize, RefT, MutSlice, ShrSlice, shr-slice-tells, sliceVal, slice-vals, mut-slice-tells, Room, Held, heres, codedHoleys, place-is, plain, shrSliceOf, heard, nothing}
+use Rattle.walks.proofs.Prelude.{fmOf, WpFn-mono, owns, uint-vals, uint-tells, u8, usize, RefT, MutSlice, ShrSlice, shr-slice-tells, sliceVal, slice-vals, mut-slice-tells, Room, Held, heres, codedHoleys, place-is, plain, shrSliceOf, nothing}
 use Rattle.walks.proofs.Prelude.{onEntry, Meets, tripleOf, Contract, Triple, calls-at, entered, cited, says, needs, Stays, stay-dropped, stay-slice, stay-none, walkOf, goes-none, goes-dropped, goes-slice, ends-at, walked, walk-meets, yes, scaled-fits}
-use Rattle.walks.proofs.Steps.{Upto, Nearer, nearer-wf, is-below, turn-fits, next-turn, is-nearer, localTy, goes-on, shares-on, opens-element, closes-element, after-call, frees-local, frees-room, with-usize, keeps-slice, result-struct}
+use Rattle.walks.proofs.Steps.{Upto, Nearer, nearer-wf, is-below, turn-fits, next-turn, is-nearer, localTy, goes-on, shares-on, opens-element, closes-element, after-lent-call, frees-local, frees-room, with-usize, keeps-slice, result-struct}
 use Rattle.record.specs.declared.Record.{Record}
 use Rattle.record.specs.Record.{idle}
 use Rattle.record.proofs.Record as R
@@ -123,8 +123,8 @@ module _ {M : Type 1} (𝓤 : URA M) (H : Heap 𝓤) (A : Atoms 𝓤) (W : Given
           (λ less. shares-on ! (named 0) κ₁ u8 xs (image-val ∷ []) $ move ! (0 ∷ 2 ∷ []) $ use2 W (raw (RecordIn 𝓤 H A at-mem run .pre (to-record (i .0)))) (goes-record (i .0) (turn-fits (length ts) (room .0) i) (inside less)) $
           -- [the call; the image; obs; …; _8; …], with _i at 5 + 2 · (8 − i)
           calls-at ! (fmOf 𝓤 H (W .laws) 𝓣) (RecordIn 𝓤 H A at-mem run) known (to-record (i .0)) (and-then ! (load ! (from ! (stop !)) (look ! 19 refl)) (and-then ! (load ! (from ! (stop !)) (look ! 17 refl)) (and-then ! (load ! (from ! (stop !)) (look ! 13 refl)) (no-more !)))) (λ w.
-          after-call ! tt record-in.ended (record-in.clauses 𝓤 H A at-mem run) (to-record (i .0)) w (λ r ws.
-          move ! (3 ∷ []) $ heard ! (r ≡ recordAt (versionAt ys) ys (wordPlace wordsBase n + 32 * i .0)) (λ e. use1 W (‵ (flft κ₁ q₁) ⊛ ‵ ftrue) (id⊢ 𝓤 _) $ split ! $ move ! (2 ∷ []) $ result-struct ! R.the-type R′.the-laws r w (λ is.
+          after-lent-call ! tt record-in.ended (record-in.clauses 𝓤 H A at-mem run) (to-record (i .0)) w (λ r ws. r ≡ recordAt (versionAt ys) ys (wordPlace wordsBase n + 32 * i .0)) (λ r ws. id⊢ 𝓤 _) (λ r ws e.
+          use1 W (‵ (flft κ₁ q₁) ⊛ ‵ ftrue) (id⊢ 𝓤 _) $ split ! $ move ! (2 ∷ []) $ result-struct ! R.the-type R′.the-laws r w (λ is.
           move ! (1 ∷ []) $ drop ! $ move ! (1 ∷ []) $ drop ! $
           -- [the token; the image; obs; …]
           land ! (from ! (stop !)) (init ! 7 refl (record-typed 𝓤 H A W r is)) $
@@ -140,7 +140,7 @@ module _ {M : Type 1} (𝓤 : URA M) (H : Heap 𝓤) (A : Atoms 𝓤) (W : Given
           forget ! 5 refl $ forget ! 7 refl $ forget ! 9 refl $ forget ! 11 refl $
           rewrite ! 2 (λ (rs : List Record). ‵ (fobs γ (codedHoleys R.the-row .code (heres R.the-row rs)))) (one-more less r e) refl $
           rewrite ! 3 (λ (rs : List Record). ‵ (fbor κ (Held R.the-row (length rs) b o γ))) (one-more less r e) refl $
-          again ! (Nearer (length ts)) At i (next-turn (length ts) i less) (is-nearer (length ts) i less)))))))
+          again ! (Nearer (length ts)) At i (next-turn (length ts) i less) (is-nearer (length ts) i less))))))
           (λ over. exec ! C Λ En lowered.t-3 (atRet En Post) $
           assigns ! (of-opd ! (unit-lit !)) (from ! (stop !)) (init ! 21 refl (tt, tt)) $
           returns ! (look ! 21 refl) $ frees-local ! 21 refl refl $ frees-local ! 19 refl refl $ frees-local ! 17 refl refl $ frees-local ! 15 refl refl $ frees-local ! 13 refl refl $ frees-local ! 11 refl refl $ frees-local ! 9 refl refl $ frees-room ! 7 refl refl $ frees-room ! 5 refl refl $ free0 ! $

@@ -9,9 +9,9 @@ use Rattle.walks.proofs.Prelude.{_≡_, refl, List, [], _∷_, lit<, URA, fullS
 use Rattle.walks.proofs.Prelude.{GName, Lft, Share, ftrue, flft, finally, Memory, Routine, Heap, Calls, Loops, WpFn, Tables, Atoms, sem, Fun, givenOf, tables, tablesOf}
 use Rattle.walks.proofs.Prelude.{Given, ‵, raw, ⋆, _⊛_, _$_, _∵_, !, qed, by, move, keep, drop, use0, use1, use2, use3, split, join, fsplit, fjoin, feqL, suffices, frame, done}
 use Rattle.walks.proofs.Prelude.{look, store, init, stop, hop, fld, from, load, lit, addr, of-opd, bin, and-then, no-more, assigns, land, returns, returns-within, enter, alloc1, alloc0, params1, pass1, pass0, free0, agg, whole, sub, look-in}
-use Rattle.walks.proofs.Prelude.{FmC, fmOf, WpFn-mono, owns, Is, uint-makes, u8, u32, u64, RefT, MutSlice, ShrSlice, shr-slice-tells, sliceVal, slice-vals, mut-slice-tells, Room, plain, shrSliceOf, owned, heard, nothing}
+use Rattle.walks.proofs.Prelude.{FmC, fmOf, WpFn-mono, owns, Is, uint-makes, u8, u32, u64, RefT, MutSlice, ShrSlice, shr-slice-tells, sliceVal, slice-vals, mut-slice-tells, Room, plain, shrSliceOf, owned, nothing}
 use Rattle.walks.proofs.Prelude.{onEntry, Meets, tripleOf, Contract, Triple, calls-at, entered, cited, says, Stays, stay-dropped, gave-slice, walkOf, goes-dropped, goes-gave-slice, ends-at, walked, walk-meets, yes}
-use Rattle.walks.proofs.Steps.{shares-on, lends-on, comes-home, gives-up, after-call, after-plain-call, guards, frees-local, frees-room, with-usize, result-u32, result-unit, some-number, no-number}
+use Rattle.walks.proofs.Steps.{shares-on, lends-on, comes-home, gives-up, after-lent-call, after-plain-call, guards, frees-local, frees-room, with-usize, result-u32, result-unit, some-number, no-number}
 use Rattle.logic.specs.Pick.{pick}
 use Rattle.record.specs.declared.Record.{Record}
 use Rattle.record.proofs.Record as R
@@ -168,8 +168,8 @@ module _ {M : Type 1} (𝓤 : URA M) (H : Heap 𝓤) (A : Atoms 𝓤) (W : Given
         move ! (4 ∷ []) $ shares-on ! (named 2) κ₂ R.the-row table (table-val ∷ []) $ move ! (0 ∷ 6 ∷ []) $ use2 W (raw (Valid 𝓤 H A at-mem run .pre to-valid)) (goes-valid (words-within xs ys ts n checked none)) $
         -- [the call; the table; the image; its token; the strip; its token; _14; …]
         calls-at ! fm (Valid 𝓤 H A at-mem run) known-valid to-valid (and-then ! (load ! (from ! (stop !)) (look ! 22 refl)) (and-then ! (load ! (from ! (stop !)) (look ! 28 refl)) (no-more !))) (λ w₁.
-        after-call ! tt table-refusal.ended (table-refusal.clauses 𝓤 H A at-mem run) to-valid w₁ (λ m ms.
-        move ! (3 ∷ []) $ heard ! (m ≡ pick (allBelow (isValidIn (length ys) ts) (length ts)) 0 4) (λ looked. use1 W (‵ (flft κ₂ q₂) ⊛ ‵ ftrue) (id⊢ 𝓤 _) $ split ! $ move ! (2 ∷ []) $ result-u32 ! m w₁ (λ m-fits.
+        after-lent-call ! tt table-refusal.ended (table-refusal.clauses 𝓤 H A at-mem run) to-valid w₁ (λ m ms. m ≡ pick (allBelow (isValidIn (length ys) ts) (length ts)) 0 4) (λ m ms. id⊢ 𝓤 _) (λ m ms looked.
+        use1 W (‵ (flft κ₂ q₂) ⊛ ‵ ftrue) (id⊢ 𝓤 _) $ split ! $ move ! (2 ∷ []) $ result-u32 ! m w₁ (λ m-fits.
         move ! (1 ∷ []) $ drop ! $ move ! (1 ∷ []) $ drop ! $
         -- [the table's token; the table; the image; its token; the strip; its token; _14; …]
         land ! (from ! (stop !)) (init ! 24 refl (tt, record { fits = m-fits })) $
@@ -188,8 +188,8 @@ module _ {M : Type 1} (𝓤 : URA M) (H : Heap 𝓤) (A : Atoms 𝓤) (W : Given
         move ! (5 ∷ 6 ∷ []) $ join ! $ move ! (1 ∷ 2 ∷ 0 ∷ []) $ use3 W (raw (Front 𝓤 H A at-mem run .pre (to-front ν δ))) (goes-front ν δ (front-inside xs ys ts n checked none)) $
         -- [the call; what the holder keeps; the table's token; the table; _14; …], with _i at 4 + 2 · (14 − i)
         calls-at ! fm (Front 𝓤 H A at-mem run) known-front (to-front ν δ) (and-then ! (load ! (from ! (stop !)) (look ! 8 refl)) (and-then ! (load ! (from ! (stop !)) (look ! 28 refl)) (and-then ! (load ! (from ! (stop !)) (look ! 20 refl)) (no-more !)))) (λ w₂.
-        after-call ! tt write-front.ended (write-front.clauses 𝓤 H A at-mem run) (to-front ν δ) w₂ (λ u₂ zs.
-        move ! (3 ∷ []) $ heard ! (zs .0 ≡ sets (sets xs 0 (headerBytes 1 (maxOf (length ys)) (length ts))) wordsBase (wordBytes ys)) (λ front. use1 W (‵ (flft (ν ∷ []) fullShare) ⊛ (‵ (flft κ₁ q₁) ⊛ ‵ ftrue)) (id⊢ 𝓤 _) $ split ! $ move ! (1 ∷ []) $ split ! $
+        after-lent-call ! tt write-front.ended (write-front.clauses 𝓤 H A at-mem run) (to-front ν δ) w₂ (λ u₂ zs. zs .0 ≡ sets (sets xs 0 (headerBytes 1 (maxOf (length ys)) (length ts))) wordsBase (wordBytes ys)) (λ u₂ zs. id⊢ 𝓤 _) (λ u₂ zs front.
+        use1 W (‵ (flft (ν ∷ []) fullShare) ⊛ (‵ (flft κ₁ q₁) ⊛ ‵ ftrue)) (id⊢ 𝓤 _) $ split ! $ move ! (1 ∷ []) $ split ! $
         move ! (4 ∷ []) $ fsplit ! $ fsplit ! $ move ! (1 ∷ []) $ feqL ! (λ l. move ! (5 ∷ []) $ result-unit ! w₂ $
         -- [the last bytes; …; the strip's token; …; the call's token; what the holder keeps; the table's token; the table; _14; …], with _i at 8 + 2 · (14 − i)
         land ! (from ! (stop !)) (init ! 16 refl (tt, tt)) $
@@ -202,15 +202,15 @@ module _ {M : Type 1} (𝓤 : URA M) (H : Heap 𝓤) (A : Atoms 𝓤) (W : Given
         move ! (4 ∷ 3 ∷ []) $ join ! $ move ! (1 ∷ 2 ∷ 0 ∷ []) $ use3 W (raw (Records 𝓤 H A at-mem run .pre (to-records (zs .0)))) (goes-records (zs .0) (table-inside xs ys ts n checked none (zs .0) l)) $
         -- [the call; the strip's token; _14; …], with _i at 2 + 2 · (14 − i)
         calls-at ! fm (Records 𝓤 H A at-mem run) known-records (to-records (zs .0)) (and-then ! (load ! (from ! (stop !)) (look ! 2 refl)) (and-then ! (load ! (from ! (stop !)) (look ! 16 refl)) (and-then ! (load ! (from ! (stop !)) (look ! 24 refl)) (no-more !)))) (λ w₃.
-        after-call ! tt write-table.ended (write-table.clauses 𝓤 H A at-mem run) (to-records (zs .0)) w₃ (λ u₃ bs.
-        move ! (3 ∷ []) $ heard ! (bs .0 ≡ sets (zs .0) (wordPlace wordsBase (length ys)) (tableBytes 1 ts)) (λ last. use1 W (‵ (flft κ₀ q₀) ⊛ (‵ (flft κ₂ q₂) ⊛ ‵ ftrue)) (id⊢ 𝓤 _) $ split ! $ move ! (1 ∷ []) $ split ! $
+        after-lent-call ! tt write-table.ended (write-table.clauses 𝓤 H A at-mem run) (to-records (zs .0)) w₃ (λ u₃ bs. bs .0 ≡ sets (zs .0) (wordPlace wordsBase (length ys)) (tableBytes 1 ts)) (λ u₃ bs. id⊢ 𝓤 _) (λ u₃ bs last.
+        use1 W (‵ (flft κ₀ q₀) ⊛ (‵ (flft κ₂ q₂) ⊛ ‵ ftrue)) (id⊢ 𝓤 _) $ split ! $ move ! (1 ∷ []) $ split ! $
         move ! (4 ∷ []) $ fsplit ! $ fsplit ! $ move ! (1 ∷ []) $ feqL ! (λ l₃. move ! (5 ∷ []) $ result-unit ! w₃ $
         move ! (0 ∷ 4 ∷ 5 ∷ 2 ∷ []) $
         -- [the last bytes; the three tokens; …; _14; …], with _i at 6 + 2 · (14 − i)
         land ! (from ! (stop !)) (store ! 14 refl (tt, tt)) $
         assigns ! (of-opd ! (lit ! tt)) (from ! (stop !)) (init ! 34 refl (tt, record { fits = lit< tt })) $
         returns ! (look ! 34 refl) $ frees-local ! 34 refl refl $ frees-local ! 32 refl refl $ frees-local ! 30 refl refl $ frees-local ! 28 refl refl $ frees-local ! 26 refl refl $ frees-local ! 24 refl refl $ frees-local ! 22 refl refl $ frees-local ! 20 refl refl $ frees-local ! 18 refl refl $ frees-local ! 16 refl refl $ frees-local ! 14 refl refl $ frees-local ! 12 refl refl $ frees-local ! 10 refl refl $ frees-local ! 8 refl refl $ frees-local ! 6 refl refl $ free0 ! $
-        keep ! (0 ∷ 1 ∷ 2 ∷ 3 ∷ []) $ by ! (exits 0 (lit< tt) (bs .0) (write-done xs ys ts n checked none m looked zero (zs .0) (bs .0) front last) (l₃ ∙ l)))))))))))))))))))))))))))))))))))
+        keep ! (0 ∷ 1 ∷ 2 ∷ 3 ∷ []) $ by ! (exits 0 (lit< tt) (bs .0) (write-done xs ys ts n checked none m looked zero (zs .0) (bs .0) front last) (l₃ ∙ l))))))))))))))))))))))))))))))))
 
 write-meets : {M : Type 1} (𝓤 : URA M) (H : Heap 𝓤) (A : Atoms 𝓤) (W : Given 𝓤 H A) (at-mem : Memory → SProp 𝓤) (run : Routine → Fun 𝓤) (𝓣 : Tables 𝓤 H) → Triple 𝓤 (𝓣 .C #pieces·sizes-refusal) (Sizes 𝓤 H A at-mem run) → Triple 𝓤 (𝓣 .C #whole·table-refusal) (Valid 𝓤 H A at-mem run)
     → Triple 𝓤 (𝓣 .C #pieces·write-front) (Front 𝓤 H A at-mem run) → Triple 𝓤 (𝓣 .C #whole·write-table) (Records 𝓤 H A at-mem run) → Meets 𝓤 H A write.signature (WpFn 𝓤 H (𝓣 .C) (𝓣 .Λ) code.function) (write.spec 𝓤 H A at-mem run)

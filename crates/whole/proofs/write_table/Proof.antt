@@ -10,9 +10,9 @@ use Rattle.walks.proofs.Prelude.{_≡_, refl, sym, ap, List, [], _∷_, not, ze
 use Rattle.walks.proofs.Prelude.{GName, Lft, Share, ftrue, flft, fat, froom, fdies, Memory, Routine, Heap, Out, Env, Calls, Loops, Wp, WpFn, Tables, atReturn, afterSeq, afterBlock, afterTurn, Atoms, sem, Fun, givenOf, tables, tablesOf}
 use Rattle.walks.proofs.Prelude.{Given, Item, ‵, raw, ⋆, runs, anyQ, atRet, Sq, _⊛_, _$_, _∵_, !, qed, by, move, keep, drop, use1, use2, split, join, rewrite, fsplit, fjoin, feqL, feqI, suffices, frame, done}
 use Rattle.walks.proofs.Prelude.{look, look-raw, store, init, stop, hop, fld, from, load, lit, addr, of-opd, bin, unit-lit, and-then, no-more, assigns, assigns-last, first, blocks, exec, Below, again, loops, forget, land, returns, enter, alloc1, alloc0, params1, pass1, pass0, free0, agg, whole, sub, look-in}
-use Rattle.walks.proofs.Prelude.{fmOf, WpFn-mono, owns, uint-vals, uint-tells, u8, usize, RefT, MutSlice, ShrSlice, shr-slice-tells, sliceVal, slice-vals, mut-slice-tells, Room, place-is, plain, shrSliceOf, heard, nothing}
+use Rattle.walks.proofs.Prelude.{fmOf, WpFn-mono, owns, uint-vals, uint-tells, u8, usize, RefT, MutSlice, ShrSlice, shr-slice-tells, sliceVal, slice-vals, mut-slice-tells, Room, place-is, plain, shrSliceOf, nothing}
 use Rattle.walks.proofs.Prelude.{onEntry, Meets, tripleOf, Contract, Triple, calls-at, entered, cited, says, needs, Stays, stay-dropped, stay-slice, stay-none, walkOf, goes-none, goes-dropped, goes-slice, ends-at, walked, walk-meets, yes, scaled-fits}
-use Rattle.walks.proofs.Steps.{SharedAll, Upto, Nearer, nearer-wf, is-below, turn-fits, next-turn, is-nearer, localTy, goes-on, looks-element, shuts-element, lends-on, comes-home, after-call, frees-local, frees-room, with-usize, with-struct, result-unit}
+use Rattle.walks.proofs.Steps.{SharedAll, Upto, Nearer, nearer-wf, is-below, turn-fits, next-turn, is-nearer, localTy, goes-on, looks-element, shuts-element, lends-on, comes-home, after-lent-call, frees-local, frees-room, with-usize, with-struct, result-unit}
 use Rattle.record.specs.declared.Record.{Record}
 use Rattle.record.specs.Record.{idle}
 use Rattle.record.proofs.Record as R
@@ -140,8 +140,8 @@ module _ {M : Type 1} (𝓤 : URA M) (H : Heap 𝓤) (A : Atoms 𝓤) (W : Given
           use2 W (raw (Writing 𝓤 H A at-mem run .pre (to-party (i .0) ν δ))) (goes-party (i .0) ν δ (turn-fits (length ts) (room .0) i) is (inside less)) $
           -- [the call; what the holder keeps; the table's token; its borrow; _11; …], with _i at 4 + 2 · (11 − i)
           calls-at ! (fmOf 𝓤 H (W .laws) 𝓣) (Writing 𝓤 H A at-mem run) known (to-party (i .0) ν δ) (and-then ! (load ! (from ! (stop !)) (look ! 8 refl)) (and-then ! (load ! (from ! (stop !)) (look ! 22 refl)) (and-then ! (load ! (from ! (stop !)) (look ! 18 refl)) (and-then ! (load ! (from ! (stop !)) (look ! 4 refl)) (no-more !))))) (λ w.
-          after-call ! tt write-party.ended (write-party.clauses 𝓤 H A at-mem run) (to-party (i .0) ν δ) w (λ u zs.
-          move ! (3 ∷ []) $ heard ! (zs .0 ≡ sets (laid (i .0)) (wordPlace wordsBase n + 32 * i .0) (partyBytes 1 (at (i .0)))) (λ e. use1 W (‵ (flft (ν ∷ []) fullShare) ⊛ ‵ ftrue) (id⊢ 𝓤 _) $ split ! $
+          after-lent-call ! tt write-party.ended (write-party.clauses 𝓤 H A at-mem run) (to-party (i .0) ν δ) w (λ u zs. zs .0 ≡ sets (laid (i .0)) (wordPlace wordsBase n + 32 * i .0) (partyBytes 1 (at (i .0)))) (λ u zs. id⊢ 𝓤 _) (λ u zs e.
+          use1 W (‵ (flft (ν ∷ []) fullShare) ⊛ ‵ ftrue) (id⊢ 𝓤 _) $ split ! $
           move ! (3 ∷ []) $ fsplit ! $ fsplit ! $ move ! (1 ∷ []) $ feqL ! (λ l. move ! (4 ∷ []) $ result-unit ! w $
           -- [the last bytes; …; the call's token; …; what the holder keeps; the table's token; its borrow; _11; …], with _i at 7 + 2 · (11 − i)
           land ! (from ! (stop !)) (init ! 15 refl (tt, tt)) $
@@ -150,7 +150,7 @@ module _ {M : Type 1} (𝓤 : URA M) (H : Heap 𝓤) (A : Atoms 𝓤) (W : Given
           assigns-last ! (bin ! (load ! (from ! (stop !)) (look ! 18 refl)) (lit ! tt) (record { fits = turn-fits (length ts) (room .0) (next-turn (length ts) i less) })) (from ! (stop !)) (store ! 18 refl (tt, record { fits = turn-fits (length ts) (room .0) (next-turn (length ts) i less) })) $
           forget ! 4 refl $ forget ! 6 refl $ forget ! 8 refl $ forget ! 10 refl $ forget ! 12 refl $ forget ! 14 refl $ forget ! 16 refl $
           rewrite ! 0 (λ (bytes : List ℕ). ‵ (MutSlice (named 0) κ₁ u8 .own (image γ₁ bytes) (image-val ∷ []))) (e ∙ one-record-more 1 xs (wordPlace wordsBase n) ts (i .0) (below less)) refl $
-          again ! (Nearer (length ts)) At i (next-turn (length ts) i less) (is-nearer (length ts) i less))))))))
+          again ! (Nearer (length ts)) At i (next-turn (length ts) i less) (is-nearer (length ts) i less)))))))
           (λ over. exec ! C Λ En lowered.t-3 (atRet En Post) $
           assigns ! (of-opd ! (unit-lit !)) (from ! (stop !)) (init ! 26 refl (tt, tt)) $
           returns ! (look ! 26 refl) $ frees-local ! 26 refl refl $ frees-local ! 24 refl refl $ frees-local ! 22 refl refl $ frees-local ! 20 refl refl $ frees-local ! 18 refl refl $ frees-local ! 16 refl refl $ frees-local ! 14 refl refl $ frees-room ! 12 refl refl $ frees-room ! 10 refl refl $ frees-room ! 8 refl refl $ frees-room ! 6 refl refl $ frees-room ! 4 refl refl $ free0 ! $
