@@ -45,10 +45,11 @@ headers =
     ∷ answered (image ++ (0 ∷ [])) (start 256 4 2) is 1
     ∷ []
 
--- 11, 3, 4, 5 or 6, 7, 8; a byte that must be zero is 4, before 5, 6 and 8
+-- 11, 3, 4, 5 or 6, 7, 8; a byte that must be zero is 4, after 11 and before 5, 6 and 8
 abbrev pub named : List Case
 named =
     answered image (start 256 4 2) is 11
+    ∷ answered (withSpare 2) (start 2 4 2) is 11
     ∷ answered image (start 256 0 2) is 3
     ∷ answered image (start 0 0 2) is 4
     ∷ answered (withSpare 2) (start 2 0 2) is 4
