@@ -1,6 +1,6 @@
 /*
- * One image spelled out, byte for byte, after calls that leave orders at both ends, one popped, one refused, and a record in the middle of
- * a push. crates/conventions proves the same of the definitions.
+ * One image spelled out, byte for byte, after calls: orders pushed at both ends, one popped again, one call refused, a push left in the
+ * middle. crates/conventions proves the same of the definitions.
  */
 #include "check.h"
 

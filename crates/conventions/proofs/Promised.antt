@@ -1,4 +1,5 @@
--- What keeps the promise of a call on lent records, or of list, says so: two that nothing else sees.
+-- Said of the promise itself, since no case would see it: what a pop on lent records says and leaves, and what list says of a short
+-- buffer.
 use Prim.Native.Nat.{ℕ, _<_}
 use mathlib.Core.Path.{_≡_, refl, _∙_, ap}
 use mathlib.Core.Bool.{Bool, true, false}
@@ -10,7 +11,7 @@ use Rattle.record.specs.Record.{idle}
 use Rattle.record.specs.Valid.{validOf}
 use Rattle.record.specs.declared.Record.{Record}
 use Rattle.stages.specs.Stages.{accessOf}
-use Rattle.step.specs.Step.{stepOwn, stepRefusal, stepOf}
+use Rattle.step.specs.Step.{stepOwn, stepRefusal, stepOf, stepLeaves}
 use Rattle.call.specs.Call.{gate, callOf}
 use Rattle.call.specs.Call.Call.{step}
 use Rattle.table.specs.Lent.{Does, alone}
@@ -18,18 +19,20 @@ use Rattle.table.specs.declared.Said.{Said}
 use Rattle.listing.specs.Listing.{listingBound}
 use Rattle.schedule.specs.List.{listRefusal, ListPromise}
 use Rattle.schedule.specs.declared.Listed.{Listed}
-use Rattle.conventions.specs.Given.{popping, popped}
+use Rattle.conventions.specs.Given.{busy, popping, beforePop, afterPop}
 
--- A pop carries its order, of a record that is lent alone and of one in a table.
-pub a-lent-pop-carries-its-order : {said : Said} {words : List ℕ} {left : List Record}
-    → Does popped (alone popping) (step 0 0) said words left → (said .number ≡ 17) × (said .carried ≡ 7)
-unfolding validOf accessOf stepOwn stepRefusal stepOf gate callOf
-a-lent-pop-carries-its-order p = (p .number-is, p .carried-is)
+-- A pop carries its order and leaves its record idle, lent alone and in a table.
+pub a-lent-pop-is-done-and-told : {said : Said} {words : List ℕ} {left : List Record}
+    → Does beforePop (alone popping) (step 0 0) said words left
+    → (said .number ≡ 17) × (said .carried ≡ 7) × (words ≡ afterPop) × (left ≡ alone idle)
+unfolding validOf accessOf stepOwn stepRefusal stepOf stepLeaves gate callOf
+a-lent-pop-is-done-and-told p = (p .number-is, p .carried-is, p .words-left, p .records-left)
 
-pub a-pop-in-a-table-carries-its-order : {said : Said} {words : List ℕ} {left : List Record}
-    → Does popped (idle ∷ popping ∷ []) (step 1 0) said words left → (said .number ≡ 17) × (said .carried ≡ 7)
-unfolding validOf accessOf stepOwn stepRefusal stepOf gate callOf
-a-pop-in-a-table-carries-its-order p = (p .number-is, p .carried-is)
+pub a-pop-in-a-table-is-done-and-told : {said : Said} {words : List ℕ} {left : List Record}
+    → Does beforePop (busy ∷ popping ∷ []) (step 1 0) said words left
+    → (said .number ≡ 17) × (said .carried ≡ 7) × (words ≡ afterPop) × (left ≡ busy ∷ idle ∷ [])
+unfolding validOf accessOf stepOwn stepRefusal stepOf stepLeaves gate callOf
+a-pop-in-a-table-is-done-and-told p = (p .number-is, p .carried-is, p .words-left, p .records-left)
 
 -- A buffer that is too short is 1, whatever the file.
 pub a-short-buffer-is-1 : {file strip out : List ℕ} {got : Listed} {words bytes : List ℕ} → ListPromise file strip out got words bytes

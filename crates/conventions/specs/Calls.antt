@@ -1,10 +1,10 @@
--- Start, step and withdraw: their refusals in document 01's order. In each list all is wrong at first, and each row mends what the row
--- before was refused for: so each refusal is seen to come before all that follow it.
+-- Start, step and withdraw: their refusals in document 01's order. A call's first row is wrong in every way, and going down what was
+-- refused is mended: so each refusal is seen to come before those after it. Some rows show a second way to the same refusal.
 use Prim.Native.Nat.{ℕ}
 use mathlib.Core.List.{List, [], _∷_}
 use lib.ListN.{replicate}
 use Rattle.record.specs.declared.Record.{Record}
-use Rattle.record.specs.Record.{idle, begun}
+use Rattle.record.specs.Record.{idle}
 use Rattle.party.specs.Answer.{numberOf}
 use Rattle.party.specs.Calls.{startOf, withdrawOf}
 use Rattle.step.specs.Step.{stepOf}
@@ -16,13 +16,19 @@ use Rattle.conventions.specs.Given.{_·_, rec, fresh, twoWords, busy, sp
 abbrev pub started : (max : ℕ) → Record → (operation order : ℕ) → ℕ
 started max r operation order = numberOf (startOf max r operation order .answer)
 
--- by value: 1, 11, 4, 5, 7
+-- a right pop at place 4: valid at MAX 3, not at MAX 2
+abbrev pub wide : Record
+wide = rec 1 2 4 0 5 0
+
+-- by value: 1, 11, 4, 5, 7; the record is checked at the MAX that is given
 abbrev pub starts : List Case
 starts =
     started 0 spoilt 4 2 is 1
     ∷ started 4095 spoilt 4 2 is 1
     ∷ started 4094 spoilt 4 2 is 11
     ∷ started 2 spoilt 0 2 is 4
+    ∷ started 2 wide 0 2 is 4
+    ∷ started 3 wide 0 2 is 5
     ∷ started 2 busy 0 2 is 5
     ∷ started 2 soiled 0 2 is 4
     ∷ started 2 idle 0 2 is 7
@@ -43,7 +49,7 @@ withdrawals =
     ∷ withdrawn 2 busy is 0
     ∷ []
 
--- a strip whose place 1 has a counter at its end, and a word that was read there
+-- place 1 has a counter at its end
 abbrev pub worn : List ℕ
 worn = 0 · 0 ∷ 0 · 4294967295 ∷ 1 · 0 ∷ 1 · 0 ∷ []
 
@@ -80,6 +86,7 @@ tables =
     ∷ called fresh table (start 4 0 2) is 3
     ∷ called fresh table (start 0 0 2) is 4
     ∷ called fresh table (start 1 0 2) is 4
+    ∷ called fresh (wide ∷ []) (start 0 0 2) is 4
     ∷ called fresh table (start 2 0 2) is 5
     ∷ called fresh table (start 3 0 2) is 7
     ∷ called fresh table (start 3 0 3) is 0
@@ -93,6 +100,7 @@ tables =
     ∷ called twoWords table (withdraw 256) is 1
     ∷ called fresh table (withdraw 256) is 3
     ∷ called fresh table (withdraw 1) is 4
+    ∷ called fresh (wide ∷ []) (withdraw 0) is 4
     ∷ called fresh table (withdraw 3) is 6
     ∷ called fresh table (withdraw 2) is 0
     ∷ []

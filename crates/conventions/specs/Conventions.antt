@@ -4,7 +4,7 @@ use Rattle.conventions.specs.Numbers.{numbers}
 use Rattle.conventions.specs.Records.{stage0, operations, stage1, stage2, stage3, swapStage}
 use Rattle.conventions.specs.Strips.{lays, measures, finds, twos}
 use Rattle.conventions.specs.Calls.{starts, withdrawals, steps, tables}
-use Rattle.conventions.specs.Entries.{fields, wide, order}
+use Rattle.conventions.specs.Entries.{fields, wideNumber, entryOrder}
 use Rattle.conventions.specs.Images as image
 use Rattle.conventions.specs.Files.{files}
 
@@ -24,7 +24,7 @@ pub record Conventions : Type 0 where
   pub of-step : Hold steps
   pub of-lay : Hold lays
   pub of-calls-on-a-table : Hold tables
-  pub of-an-entry : Hold order
+  pub of-an-entry : Hold entryOrder
   pub of-an-images-header : Hold image.headers
   pub of-calls-on-an-image : Hold image.named
   pub of-laying-an-image : Hold image.lays
@@ -36,4 +36,4 @@ pub record Conventions : Type 0 where
   pub found : Hold finds
   pub the-reserved-value : Hold twos
   pub an-entrys-fields : Hold fields
-  pub an-entrys-number-is-compared-whole : Hold wide
+  pub an-entrys-number-is-compared-whole : Hold wideNumber

@@ -31,12 +31,12 @@ fields =
     ∷ []
 
 -- the number is compared whole: 2 and 2^24 more is no hint
-abbrev pub wide : List Case
-wide = numberOf (onRecordOf fresh 2 busy (callAt (1 ∷ 0 ∷ 0 ∷ 0 ∷ 2 ∷ 0 ∷ 0 ∷ 1 ∷ []) 0) .answer) is 8 ∷ []
+abbrev pub wideNumber : List Case
+wideNumber = numberOf (onRecordOf fresh 2 busy (callAt (1 ∷ 0 ∷ 0 ∷ 0 ∷ 2 ∷ 0 ∷ 0 ∷ 1 ∷ []) 0) .answer) is 8 ∷ []
 
 -- 1, 11, 3, and then those by value
-abbrev pub order : List Case
-order =
+abbrev pub entryOrder : List Case
+entryOrder =
     entered twoWords spoilt 3 2 4 1 2 is 1
     ∷ entered fresh spoilt 3 2 4 1 2 is 11
     ∷ entered fresh spoilt 0 2 0 0 2 is 3

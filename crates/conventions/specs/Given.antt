@@ -35,12 +35,15 @@ spoilt = rec 0 1 2 3 0 0
 abbrev pub soiled : Record
 soiled = rec 0 0 0 3 0 0
 
--- a right pop that takes 7 at its next step, and the strip for it
+-- a right pop that takes 7 at its next step; the strip before that step, and after it
 abbrev pub popping : Record
 popping = rec 1 5 2 0 (7 · 1) (1 · 0)
 
-abbrev pub popped : List ℕ
-popped = 0 · 0 ∷ 7 · 1 ∷ 1 · 1 ∷ 1 · 0 ∷ []
+abbrev pub beforePop : List ℕ
+beforePop = 0 · 0 ∷ 7 · 1 ∷ 1 · 1 ∷ 1 · 0 ∷ []
+
+abbrev pub afterPop : List ℕ
+afterPop = 0 · 0 ∷ 1 · 2 ∷ 1 · 1 ∷ 1 · 0 ∷ []
 
 -- parties 0 to 3, one of each kind
 abbrev pub table : List Record

@@ -1,7 +1,7 @@
 -- Calls on an image, and whole images: their refusals in document 01's order, and what is not looked at.
 use Prim.Native.Nat.{ℕ, _+_}
 use mathlib.Core.List.{List, [], _∷_, _++_}
-use lib.ListN.{length, take, set, replicate}
+use lib.ListN.{take, set, replicate}
 use Rattle.record.specs.declared.Record.{Record}
 use Rattle.record.specs.Record.{idle}
 use Rattle.party.specs.Answer.{numberOf}
@@ -12,7 +12,7 @@ use Rattle.image.specs.Calls.{imageOf, layOf}
 use Rattle.pieces.specs.Pieces.{readRefusal}
 use Rattle.whole.specs.Whole.{writtenOf, writeRefusal}
 use Rattle.conventions.specs.Case.{Case, _is_}
-use Rattle.conventions.specs.Given.{fresh, twoWords, busy, table}
+use Rattle.conventions.specs.Given.{fresh, twoWords, busy, soiled, table}
 
 -- the fresh strip and the four records: 168 bytes
 abbrev pub image : List ℕ
@@ -36,7 +36,9 @@ abbrev pub headers : List Case
 headers =
     answered (take 7 unmarked) (start 256 4 2) is 1
     ∷ answered (take 8 unmarked) (start 256 4 2) is 2
+    ∷ answered (set (writtenOf fresh []) 2 79) (start 256 4 2) is 2
     ∷ answered (take 63 ofVersion2) (start 256 4 2) is 2
+    ∷ answered (set (writtenOf twoWords table) 3 2) (start 256 4 2) is 2
     ∷ answered (take 63 image) (start 256 4 2) is 1
     ∷ answered (writtenOf fresh []) (start 256 4 2) is 1
     ∷ answered (writtenOf fresh (replicate 17 busy)) (start 256 4 2) is 1
@@ -45,7 +47,7 @@ headers =
     ∷ answered (image ++ (0 ∷ [])) (start 256 4 2) is 1
     ∷ []
 
--- 11, 3, 4, 5 or 6, 7, 8; a byte that must be zero is 4, after 11 and before 5, 6 and 8
+-- 11, 3, 4, 5 or 6, 7, 8; a byte that must be zero is 4, after 11 and before 5, 6, 7 and 8
 abbrev pub named : List Case
 named =
     answered image (start 256 4 2) is 11
@@ -54,6 +56,7 @@ named =
     ∷ answered image (start 0 0 2) is 4
     ∷ answered (withSpare 2) (start 2 0 2) is 4
     ∷ answered image (start 2 0 2) is 5
+    ∷ answered (withSpare 3) (start 3 0 2) is 4
     ∷ answered image (start 3 0 2) is 7
     ∷ answered image (start 3 0 3) is 0
     ∷ answered (withSpare 2) (start 3 0 3) is 0
@@ -71,10 +74,10 @@ named =
     ∷ answered image (withdraw 2) is 0
     ∷ []
 
--- laying: 1 before 8, and never 2
 abbrev pub laid : (bytes max parties divide : ℕ) → ℕ
 laid bytes max parties divide = numberOf (layOf (replicate bytes 0) max parties divide .answer)
 
+-- laying: 1 before 8, and never 2; the smallest image has 64 bytes
 abbrev pub lays : List Case
 lays =
     laid 7 2 4 3 is 1
@@ -84,11 +87,15 @@ lays =
     ∷ laid 584 2 17 3 is 1
     ∷ laid 168 2 4 3 is 8
     ∷ laid 168 2 4 2 is 0
+    ∷ laid 64 1 1 0 is 0
     ∷ []
 
--- four records that are all valid
-abbrev pub sound : List ℕ
-sound = writtenOf fresh (idle ∷ busy ∷ busy ∷ idle ∷ [])
+-- four records that are all valid, and all but the last
+abbrev pub valid : List Record
+valid = idle ∷ busy ∷ busy ∷ idle ∷ []
+
+abbrev pub lastSoiled : List Record
+lastSoiled = idle ∷ busy ∷ busy ∷ soiled ∷ []
 
 -- reading: 1 for what is lent, 1, 2 and 1 of the header, 1 for what does not agree, 4 for any record
 abbrev pub reads : List Case
@@ -102,8 +109,9 @@ reads =
     ∷ readRefusal image 5 4 is 1
     ∷ readRefusal image 4 3 is 1
     ∷ readRefusal image 4 4 is 4
-    ∷ readRefusal (set sound (partyPlace sound 3 + 31) 1) 4 4 is 4
-    ∷ readRefusal sound 4 4 is 0
+    ∷ readRefusal (writtenOf fresh lastSoiled) 4 4 is 4
+    ∷ readRefusal (set (writtenOf fresh valid) 167 1) 4 4 is 4
+    ∷ readRefusal (writtenOf fresh valid) 4 4 is 0
     ∷ []
 
 -- writing: 1 for the lengths, 4 for any record
@@ -113,5 +121,6 @@ writes =
     ∷ writeRefusal 40 4 [] is 1
     ∷ writeRefusal 167 4 table is 1
     ∷ writeRefusal 168 4 table is 4
-    ∷ writeRefusal 168 4 (idle ∷ busy ∷ busy ∷ idle ∷ []) is 0
+    ∷ writeRefusal 168 4 lastSoiled is 4
+    ∷ writeRefusal 168 4 valid is 0
     ∷ []

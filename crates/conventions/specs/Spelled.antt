@@ -1,5 +1,5 @@
--- One image spelled out in bytes, after C calls that leave orders at both ends, one popped, one refused, and a record in the middle of a
--- push.
+-- One image spelled out in bytes, after C calls: orders pushed at both ends, one popped again, one call refused, a push left in the
+-- middle.
 use Prim.Native.Nat.{ℕ}
 use mathlib.Core.List.{List, [], _∷_, _++_}
 use lib.ListN.{replicate}

@@ -11,12 +11,13 @@ use Rattle.find.specs.Find.{findOf, foundNumber, foundPlace}
 use Rattle.conventions.specs.Case.{Case, _is_}
 use Rattle.conventions.specs.Given.{_·_, rec, fresh, twoWords}
 
--- 1 before 8
+-- 1 before 8; the divide is 0 to MAX
 abbrev pub lays : List Case
 lays =
     laidNumber (laidOf (length twoWords) 3) is 1
     ∷ laidNumber (laidOf (length fresh) 3) is 8
     ∷ laidNumber (laidOf (length fresh) 2) is 0
+    ∷ laidNumber (laidOf (length fresh) 0) is 0
     ∷ []
 
 abbrev pub measured : List ℕ → ℕ
@@ -39,14 +40,20 @@ measures =
     ∷ measuredLeft (measureOf held) is 1
     ∷ measuredOrders (measureOf held) is 3
     ∷ measuredRight (measureOf held) is 2
+    ∷ measuredLeft (measureOf twoWords) is 0
+    ∷ measuredOrders (measureOf twoWords) is 0
     ∷ measuredRight (measureOf twoWords) is 0
     ∷ []
+
+-- value 2 at place 1
+abbrev pub reserved : List ℕ
+reserved = 0 · 0 ∷ 2 · 0 ∷ 1 · 0 ∷ 1 · 0 ∷ []
 
 -- two places for each side: 1 and 3 for the right, 0 and 2 for the left
 abbrev pub twice : List ℕ
 twice = 0 · 0 ∷ 1 · 0 ∷ 0 · 0 ∷ 1 · 0 ∷ []
 
--- 1 before 10, with place 0; the first place from 1 up, and the first from MAX down, which may be 0
+-- 1 before 10, with place 0; the first place from 1 up, and the first from MAX down, which may be 0; value 2 is a neighbour like an order
 abbrev pub finds : List Case
 finds =
     foundNumber (findOf 0 twoWords) is 1
@@ -58,14 +65,13 @@ finds =
     ∷ foundPlace (findOf 2 twice) is 2
     ∷ foundNumber (findOf 2 (0 · 0 ∷ 1 · 0 ∷ 1 · 0 ∷ [])) is 0
     ∷ foundPlace (findOf 2 (0 · 0 ∷ 1 · 0 ∷ 1 · 0 ∷ [])) is 0
+    ∷ foundPlace (findOf 0 reserved) is 2
+    ∷ foundNumber (findOf 2 reserved) is 0
     ∷ []
 
 -- the stage after a step in another stage than 1
 abbrev pub stageAfter : List ℕ → Record → ℕ
 stageAfter strip r = stepOf strip r 0 .rec .stage
-
-abbrev pub reserved : List ℕ
-reserved = 0 · 0 ∷ 2 · 0 ∷ 1 · 0 ∷ 1 · 0 ∷ []
 
 -- beside it a push and a pop go to stage 4; at it, as at any word but own null, back to stage 1; and it is popped as it stands
 abbrev pub twos : List Case

@@ -268,6 +268,6 @@ marks =
     }
     ∷ []
 
--- M3 as it is printed: document 01's nine entries, as a schedule file, print its listing; and so does the second file.
+-- M3 as it is printed: document 01's nine entries, as a schedule file, print its listing; and a second file prints its own.
 abbrev pub prints : Bool
 prints = allSame eqb (listingOf fight) fightText && allSame eqb (listingOf withdrawal) withdrawalText
