@@ -3,6 +3,7 @@
 use Prim.Native.Nat.{ℕ}
 use mathlib.Core.List.{List, [], _∷_}
 use lib.ListN.{replicate}
+use Rattle.word.specs.Word.{_·_}
 use Rattle.record.specs.declared.Record.{Record}
 use Rattle.record.specs.Record.{idle}
 use Rattle.party.specs.Answer.{numberOf}
@@ -11,7 +12,7 @@ use Rattle.step.specs.Step.{stepOf}
 use Rattle.call.specs.Call.{Call, callOf}
 use Rattle.call.specs.Call.Call.{start, step, withdraw}
 use Rattle.conventions.specs.Case.{Case, _is_}
-use Rattle.conventions.specs.Given.{_·_, rec, fresh, twoWords, busy, spoilt, soiled, table}
+use Rattle.conventions.specs.Given.{rec, fresh, twoWords, busy, spoilt, soiled, table}
 
 abbrev pub started : (max : ℕ) → Record → (operation order : ℕ) → ℕ
 started max r operation order = numberOf (startOf max r operation order .answer)

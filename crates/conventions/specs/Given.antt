@@ -1,15 +1,10 @@
 -- What the cases are given: words, strips, records and a table, for MAX 2.
 use Prim.Native.Nat.{ℕ}
 use mathlib.Core.List.{List, [], _∷_}
-use Rattle.word.specs.Word.{wordOf}
+use Rattle.word.specs.Word.{_·_}
 use Rattle.record.specs.declared.Record.{Record}
 use Rattle.record.specs.Record.{idle, begun, atStage, withPlace, withFirst, withSecond}
 use Rattle.strip.specs.Lay.{freshStrip}
-
-infix 70 _·_
--- a cell as document 01 writes it: value and counter
-abbrev pub _·_ : (value counter : ℕ) → ℕ
-value · counter = wordOf counter value
 
 abbrev pub fresh : List ℕ
 fresh = freshStrip 2 1

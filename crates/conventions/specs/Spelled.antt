@@ -3,12 +3,13 @@
 use Prim.Native.Nat.{ℕ}
 use mathlib.Core.List.{List, [], _∷_, _++_}
 use lib.ListN.{replicate}
+use Rattle.word.specs.Word.{_·_}
 use Rattle.record.specs.declared.Record.{Record}
 use Rattle.record.specs.Record.{idle}
 use Rattle.call.specs.Call.{Call}
 use Rattle.call.specs.Call.Call.{start, step}
 use Rattle.image.specs.Calls.{layOf}
-use Rattle.conventions.specs.Given.{_·_, rec}
+use Rattle.conventions.specs.Given.{rec}
 
 -- laid over any bytes: MAX 4, 2 parties, divide 2
 abbrev pub laidImage : List ℕ

@@ -2,6 +2,7 @@
 use Prim.Native.Nat.{ℕ}
 use mathlib.Core.List.{List, [], _∷_}
 use lib.ListN.{length}
+use Rattle.word.specs.Word.{_·_}
 use Rattle.record.specs.declared.Record.{Record}
 use Rattle.party.specs.Answer.{numberOf, carriedOf}
 use Rattle.step.specs.Step.{stepOf}
@@ -9,7 +10,7 @@ use Rattle.strip.specs.Lay.{laidOf, laidNumber}
 use Rattle.strip.specs.Measure.{measureOf, measuredNumber, measuredLeft, measuredOrders, measuredRight}
 use Rattle.find.specs.Find.{findOf, foundNumber, foundPlace}
 use Rattle.conventions.specs.Case.{Case, _is_}
-use Rattle.conventions.specs.Given.{_·_, rec, fresh, twoWords}
+use Rattle.conventions.specs.Given.{rec, fresh, twoWords}
 
 -- 1 before 8; the divide is 0 to MAX
 abbrev pub lays : List Case

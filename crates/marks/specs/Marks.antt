@@ -3,7 +3,7 @@ use Prim.Native.Nat.{ℕ}
 use mathlib.Core.Bool.{Bool, true, _&&_}
 use mathlib.Core.List.{List, [], _∷_, map}
 use lib.Dec.{eqb}
-use Rattle.word.specs.Word.{wordOf}
+use Rattle.word.specs.Word.{_·_}
 use Rattle.call.specs.Call.{Call}
 use Rattle.call.specs.Call.Call.{start, step}
 use Rattle.strip.specs.Lay.{freshStrip}
@@ -14,11 +14,6 @@ use Rattle.marks.specs.Fight.{fight, fightText}
 use Rattle.marks.specs.Withdrawal.{withdrawal, withdrawalText}
 use Rattle.marks.specs.Seen.{Row, goes, refuses, ends, sameRow, seenFrom}
 use Rattle.marks.specs.Replay.{allSame, isExplained}
-
-infix 70 _·_
--- a cell as document 01 writes it: value and counter
-abbrev pub _·_ : (value counter : ℕ) → ℕ
-value · counter = wordOf counter value
 
 -- What is run, from a strip and parties that are idle: the calls, each with what must be seen of it. Then the cells that must be left,
 -- and L as measure gives it of them.

@@ -16,6 +16,11 @@ counterOf w = w / 4294967296
 abbrev pub wordOf : (counter value : ℕ) → ℕ
 wordOf counter value = counter * 4294967296 + value
 
+-- as document 01 writes a cell: value and counter
+infix 70 _·_
+abbrev pub _·_ : (value counter : ℕ) → ℕ
+value · counter = wordOf counter value
+
 -- the nulls; 2 is reserved; orders are 3 and up
 abbrev pub LN : ℕ
 LN = 0
