@@ -5,3 +5,4 @@ pub mod line;
 pub mod number;
 pub mod records;
 pub mod say;
+pub mod tables;

@@ -1,13 +1,13 @@
 use Prim.Native.Nat.{_≤_, _-_}
 use borrow.Author.Needs.{needs}
-use Rattle.probe_images.proofs.wholes.records.Statement.{statement}
-use Rattle.probe_images.proofs.wholes.records.Tie as tie
+use Rattle.console.proofs.tables.say_records.Statement.{statement}
+use Rattle.console.proofs.tables.say_records.Tie as tie
 
 abbrev Inv-loop : tie.InvT-loop
-Inv-loop parties table i₀ i = (parties ≤ 17)
+Inv-loop count table i₀ i = (count ≤ 17)
 
 abbrev μ-loop : tie.MeasureT-loop
-μ-loop parties table i₀ i = parties - i
+μ-loop count table i₀ i = count - i
 
 loop-holds : tie.Need-loop-holds Inv-loop μ-loop
 loop-holds c = search needs
@@ -33,8 +33,8 @@ loop-again c = search needs
 returns : tie.Need-returns Inv-loop μ-loop
 returns c = search needs
 
-pub records-spec : {M : Type 1} → statement M
-records-spec =
+pub say-records-spec : {M : Type 1} → statement M
+say-records-spec =
     tie.close
     (tie.spec
     Inv-loop

@@ -1,14 +1,20 @@
 use Prim.Native.Nat.{_≤_, _-_, _+_, _*_}
 use lib.ListN.{length}
 use borrow.Author.Needs.{needs}
-use Rattle.probe_images.proofs.wholes.records_of.Statement.{statement}
-use Rattle.probe_images.proofs.wholes.records_of.Tie as tie
+use Rattle.console.proofs.tables.records_of.Statement.{statement}
+use Rattle.console.proofs.tables.records_of.Tie as tie
 
 abbrev Inv-loop : tie.InvT-loop
-Inv-loop given parties fits₀ table₀ i₀ fits table i = ((1 + 6 * parties) ≤ length given) × (parties ≤ 17)
+Inv-loop given count fits₀ table₀ i₀ fits table i = ((1 + 6 * count) ≤ length given) × (count ≤ 17)
 
 abbrev μ-loop : tie.MeasureT-loop
-μ-loop given parties fits₀ table₀ i₀ fits table i = parties - i
+μ-loop given count fits₀ table₀ i₀ fits table i = count - i
+
+counted-requires : tie.Need-counted-requires Inv-loop μ-loop
+counted-requires c κs = search needs
+
+shared-slice-read-fits : tie.Need-shared-slice-read-fits Inv-loop μ-loop
+shared-slice-read-fits c = search needs
 
 idle-record-requires : tie.Need-idle-record-requires Inv-loop μ-loop
 idle-record-requires c κs = search needs
@@ -61,6 +67,8 @@ records-of-spec =
     (tie.spec
     Inv-loop
     μ-loop
+    counted-requires
+    shared-slice-read-fits
     idle-record-requires
     loop-holds
     mul-from

@@ -1,4 +1,4 @@
--- The table of 17 records that the two walks of held.rt lend, and what is known of it.
+-- The table of 17 records that the text doors hold and lend, and what is known of it.
 use Prim.Native.Nat.{ℕ, _≤_}
 use mathlib.Core.Path.{_≡_}
 use mathlib.Core.List.{List}
