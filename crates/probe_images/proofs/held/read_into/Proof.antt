@@ -1,35 +1,29 @@
 -- `probe_images::held::read_into` meets its contract: a walk of its MIR, by hand. The table that was passed is copied to a local, whose first records
 -- are lent to `whole::read` with the strip lent on for good, and come back.
 use Prim.Native.Nat.{ℕ, _<_, _≤_, _^_}
-use mathlib.Core.Path.{_∙_}
 use mathlib.Core.List.{_++_}
 use lib.ListN.{length, take, drop as leave}
 use mir.Val.{hasTy, WT, vstruct, ofList}
-use denote.Memory.{mem}
 use lib.Dec.{T as Holds}
-use types.Kit.{drop, rewrite}
-use types.SemTy.{cells}
+use types.Kit.{drop}
 use denote.Array.{array-vals, array-tells}
 use denote.Slice.{ShrSlice, shr-slice-tells}
 use denote.Signature.{shrSliceOf}
 use denote.Builtin.{u8}
 use denote.Triple.Walked.{stay-dropped, goes-dropped, needs}
 use denote.Struct.Laws as LL
-use borrow.Table.Elements.{at, length-take-le, same-len}
-use borrow.Rule.Array.Share.{room-take}
-use Rattle.walks.proofs.Prelude.{_≡_, refl, sym, List, [], _∷_, URA, fullShare, named, w32, w64, Val, vint, SProp, ent, id⊢}
+use Rattle.walks.proofs.Prelude.{_≡_, refl, List, [], _∷_, URA, fullShare, named, w32, w64, Val, vint, SProp, ent, id⊢}
 use Rattle.walks.proofs.Prelude.{GName, Lft, Share, ftrue, flft, finally, Memory, Routine, Heap, Calls, Loops, WpFn, Tables, Atoms, Fun, givenOf, tables, tablesOf}
 use Rattle.walks.proofs.Prelude.{Given, ‵, raw, ⋆, _⊛_, _$_, _∵_, !, qed, by, move, keep, use1, split, join, fsplit, fjoin, feqL, suffices, frame, done}
 use Rattle.walks.proofs.Prelude.{look, init, stop, hop, fld, from, load, addr, of-opd, and-then, no-more, assigns, land, returns, enter, alloc1, alloc0, params1, pass1, pass0, free0, agg, whole, sub, look-in}
 use Rattle.walks.proofs.Prelude.{FmC, fmOf, WpFn-mono, owns, Is, uint-vals, uint-tells, u64, usize, RefT, MutSlice, sliceVal, slice-vals, mut-slice-tells, Room, plain, owned, nothing}
 use Rattle.walks.proofs.Prelude.{onEntry, Meets, tripleOf, Contract, Triple, calls-at, entered, cited, Stays, gave-slice, walkOf, goes-gave-slice, ends-at, walked, walk-meets, yes}
 use Rattle.walks.proofs.Steps.{after-call, frees-local, result-u32}
-use Rattle.walks.proofs.Loans.{in-field, cuts-array, joins-array, lends-first, ends-loan}
+use Rattle.walks.proofs.Loans.{in-field, lends-array, array-home}
 use Rattle.record.specs.declared.Record.{Record}
 use Rattle.record.proofs.Record as R
 use Rattle.record.proofs.Record.Laws as R′
-use Rattle.console.proofs.HeldTable.{Table, machine, IsTable, length-is, fewer, room-17, table-typed}
-use Rattle.table.proofs.Machine.{recordSize}
+use Rattle.console.proofs.HeldTable.{Table, machine, IsTable, room-17, table-typed}
 use Rattle.whole.proofs.read as read
 use Rattle.whole.proofs.read.Symbol as read-def
 use Rattle.whole.proofs.read.Symbol.{name as #whole·read}
@@ -110,21 +104,18 @@ module _ {M : Type 1} (𝓤 : URA M) (H : Heap 𝓤) (A : Atoms 𝓤) (W : Given
         assigns ! (agg ! (and-then ! (load ! (from ! (stop !)) (look ! 8 refl)) (and-then ! (load ! (from ! (fld ! refl (stop !))) (look-in ! 18 (sub ! 1 refl (whole !)))) (no-more !)))) (from ! (stop !)) (init ! 6 refl (tt, (tt, (record { fits = room₁ .0 }, tt)))) $
         assigns ! (addr ! (from ! (stop !))) (from ! (stop !)) (init ! 4 refl (tt, tt)) $
         assigns ! (agg ! (and-then ! (load ! (from ! (stop !)) (look ! 4 refl)) (and-then ! (load ! (from ! (stop !)) (look ! 14 refl)) (no-more !)))) (from ! (stop !)) (init ! 2 refl (tt, (tt, (record { fits = n-fits }, tt)))) $
-        move ! (12 ∷ []) $ cuts-array ! R.the-type R′.the-laws R′.the-plain 17 n l₅ rs is-table $
-        lends-first ! tt R.the-row (named 2) n l₅ (take n rs) (length-take-le n rs (fewer n rs is-table within)) (room-take R.the-row 17 n rs (length-is rs is-table) room-17) (λ α γ.
-        -- [the slice; the lender's part; its token; the others; _11; …; _6; …; _5's end; _4; …; _0; …; what was there]
-        nothing ! $ move ! (1 ∷ 0 ∷ []) $ fjoin ! $ move ! (28 ∷ 0 ∷ []) $ fjoin ! $ move ! (27 ∷ 0 ∷ []) $ fjoin ! $
-        nothing ! $ move ! (3 ∷ 0 ∷ []) $ join ! $ move ! (28 ∷ 0 ∷ []) $ join ! $ move ! (27 ∷ 0 ∷ []) $ join ! $ join ! $ nothing ! $ move ! (1 ∷ 0 ∷ []) $ join ! $
+        move ! (12 ∷ []) $ lends-array ! tt (named 2) R.the-type R′.the-laws R′.the-plain 17 n l₅ rs is-table within room-17 (λ α γ.
+        -- [the lent records; their token; the lender's part; _11; …; _6; …; _5's end; _4; …; _0; …; what was there]
+        nothing ! $ move ! (1 ∷ 0 ∷ []) $ fjoin ! $ move ! (27 ∷ 0 ∷ []) $ fjoin ! $ move ! (26 ∷ 0 ∷ []) $ fjoin ! $
+        nothing ! $ move ! (2 ∷ 0 ∷ []) $ join ! $ move ! (27 ∷ 0 ∷ []) $ join ! $ move ! (26 ∷ 0 ∷ []) $ join ! $ join ! $ nothing ! $ move ! (1 ∷ 0 ∷ []) $ join ! $
         use1 W (raw (Read 𝓤 H A at-mem run .pre (to-read l₅ α γ))) (id⊢ 𝓤 _) $
-        -- [what is handed over; the lender's part; the others; _11; …], with _11 at 3
-        calls-at ! fm (Read 𝓤 H A at-mem run) known (to-read l₅ α γ) (and-then ! (load ! (from ! (stop !)) (look ! 22 refl)) (and-then ! (load ! (from ! (stop !)) (look ! 9 refl)) (and-then ! (load ! (from ! (stop !)) (look ! 5 refl)) (no-more !)))) (λ w.
+        -- [what is handed over; the lender's part; _11; …], with _11 at 2
+        calls-at ! fm (Read 𝓤 H A at-mem run) known (to-read l₅ α γ) (and-then ! (load ! (from ! (stop !)) (look ! 21 refl)) (and-then ! (load ! (from ! (stop !)) (look ! 8 refl)) (and-then ! (load ! (from ! (stop !)) (look ! 4 refl)) (no-more !)))) (λ w.
         after-call ! tt read.ended (read.clauses 𝓤 H A at-mem run) (to-read l₅ α γ) w (λ got ws.
         move ! (3 ∷ []) $ drop ! $ use1 W (‵ (flft κ₀ q₀) ⊛ (‵ (flft κ₁ q₁) ⊛ (‵ (flft (α ∷ []) fullShare) ⊛ ‵ ftrue))) (id⊢ 𝓤 _) $ split ! $ move ! (1 ∷ []) $ split ! $ move ! (1 ∷ []) $ split ! $
-        -- [the last lists; the loan's token; …; the strip's; the bytes'; the result; the lender's part; the others; _11; …]
+        -- [the last lists; the loan's token; …; the strip's; the bytes'; the result; the lender's part; _11; …]
         move ! (5 ∷ []) $ fsplit ! $ drop ! $ fsplit ! $ fsplit ! $ move ! (1 ∷ []) $ feqL ! (λ l₁. move ! (1 ∷ []) $ fsplit ! $ fsplit ! $
-        move ! (0 ∷ 4 ∷ 9 ∷ []) $ ends-loan ! tt R.the-row (length (take n rs)) l₅ (ws .1 .1 .0) (λ l₂.
-        move ! (0 ∷ 8 ∷ []) $ rewrite ! 1 (λ (m : ℕ). ‵ (cells (mem R.the-row) (leave n rs) l₅ (at 0 recordSize m))) (sym l₂) refl $
-        joins-array ! R.the-type R′.the-laws 17 l₅ (ws .1 .1 .0) (leave n rs) (same-len n rs (ws .1 .1 .0) l₂ ∙ (length-is rs is-table)) (λ is.
+        move ! (0 ∷ 4 ∷ 9 ∷ []) $ array-home ! tt R.the-type R′.the-laws 17 n l₅ rs is-table (ws .1 .1 .0) (λ is.
         -- [_5; …; the last words (3); …; the strip's token; the bytes'; the result; _11; …; _6; …; _5's end; _4; …]
         move ! (7 ∷ 8 ∷ 9 ∷ 10 ∷ 11 ∷ 12 ∷ 13 ∷ 14 ∷ 15 ∷ 16 ∷ 17 ∷ 18 ∷ 19 ∷ 0 ∷ 20 ∷ []) $ result-u32 ! got w (λ got-fits.
         -- [_11; …; _5; …; six others; _4; …; _0; …]
@@ -132,7 +123,7 @@ module _ {M : Type 1} (𝓤 : URA M) (H : Heap 𝓤) (A : Atoms 𝓤) (W : Given
         assigns ! (of-opd ! (load ! (from ! (stop !)) (look ! 12 refl))) (from ! (stop !)) (init ! 0 refl (table-typed 𝓤 H A W (ws .1 .1 .0 ++ leave n rs) is)) $
         assigns ! (agg ! (and-then ! (load ! (from ! (stop !)) (look ! 10 refl)) (and-then ! (load ! (from ! (stop !)) (look ! 0 refl)) (no-more !)))) (from ! (stop !)) (init ! 28 refl (filled-typed got (ws .1 .1 .0 ++ leave n rs) got-fits is)) $
         returns ! (look ! 28 refl) $ frees-local ! 28 refl refl $ frees-local ! 26 refl refl $ frees-local ! 24 refl refl $ frees-local ! 22 refl refl $ frees-local ! 20 refl refl $ frees-local ! 12 refl refl $ frees-local ! 10 refl refl $ frees-local ! 8 refl refl $ frees-local ! 6 refl refl $ frees-local ! 4 refl refl $ frees-local ! 2 refl refl $ frees-local ! 0 refl refl $ free0 ! $
-        keep ! (2 ∷ 5 ∷ 4 ∷ []) $ by ! (exits (record { number = got; table = ws .1 .1 .0 ++ leave n rs }) _ (ws .1 .0) (filled-is got (ws .1 .1 .0 ++ leave n rs) got-fits is) l₁))))))))))))))))))))
+        keep ! (2 ∷ 5 ∷ 4 ∷ []) $ by ! (exits (record { number = got; table = ws .1 .1 .0 ++ leave n rs }) _ (ws .1 .0) (filled-is got (ws .1 .1 .0 ++ leave n rs) got-fits is) l₁)))))))))))))))))))
 
 read-into-meets : {M : Type 1} (𝓤 : URA M) (H : Heap 𝓤) (A : Atoms 𝓤) (W : Given 𝓤 H A) (at-mem : Memory → SProp 𝓤) (run : Routine → Fun 𝓤) (𝓣 : Tables 𝓤 H) → Triple 𝓤 (𝓣 .C #whole·read) (Read 𝓤 H A at-mem run)
     → Meets 𝓤 H A read-into.signature (WpFn 𝓤 H (𝓣 .C) (𝓣 .Λ) code.function) (read-into.spec 𝓤 H A at-mem run)
