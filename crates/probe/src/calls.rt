@@ -1,7 +1,7 @@
 // Each command: its numbers are handed to the proved call, and what that gives is written. False where they are not what it takes.
 use console::number::compared;
-use console::records::fits_record;
-use console::records::record_of;
+use console::number::number_at;
+use console::records::first_record;
 use console::records::say_record;
 use console::say::first;
 use console::say::more;
@@ -74,33 +74,26 @@ pub fn measure(given: &[u64]) -> bool {
 }
 
 pub fn start(given: &[u64]) -> bool {
-    if given.len() != 9 {
+    let got = first_record(given);
+    if !got.fits | (given.len() != 9) {
         return false;
     }
-    if !fits_record(given) {
-        return false;
-    }
-    let order = given[8];
+    let order = number_at(given, 8);
     if 4294967295 < order {
         return false;
     }
-    answered(party::start(
-        compared(given[0]),
-        record_of(given),
-        compared(given[7]),
-        order as u32,
-    ));
+    let r = got.rec;
+    answered(party::start(got.first, r, compared(number_at(given, 7)), order as u32));
     true
 }
 
 pub fn withdraw(given: &[u64]) -> bool {
-    if given.len() != 7 {
+    let got = first_record(given);
+    if !got.fits | (given.len() != 7) {
         return false;
     }
-    if !fits_record(given) {
-        return false;
-    }
-    answered(party::withdraw(compared(given[0]), record_of(given)));
+    let r = got.rec;
+    answered(party::withdraw(got.first, r));
     true
 }
 
@@ -108,12 +101,12 @@ pub fn step_on(given: &mut [u64]) -> bool {
     if given.len() < 7 {
         return false;
     }
-    if !fits_record(given) {
+    let got = first_record(given);
+    if !got.fits {
         return false;
     }
-    let hint = compared(given[0]);
-    let r = record_of(given);
-    answered(step::step(&mut given[7..], r, hint));
+    let r = got.rec;
+    answered(step::step(&mut given[7..], r, got.first));
     words(&given[7..]);
     true
 }
