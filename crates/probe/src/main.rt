@@ -1,5 +1,5 @@
 // The text door of the proved calls on strips of words and on records by value: commands on standard input, one a line, and one line of
-// answer each. The door of the calls on images is the program probe_images.
+// answer each. The doors of the calls on lent records and on images are the programs probe_tables and probe_images.
 //
 //   lay DIVIDE WORDS                  number WORDS
 //   find right|left WORDS             number place

@@ -1,5 +1,5 @@
 // The text door of the proved calls on images and on whole images: commands on standard input, one a line, and one line of answer each.
-// The door of the calls on strips and records is the program probe.
+// The doors of the calls on strips and records are the programs probe and probe_tables.
 //
 //   image-lay PARTIES MAX DIVIDE HEX  packed HEX
 //   image-start PARTY OPERATION ORDER HEX
