@@ -108,6 +108,7 @@ reads =
     ∷ readRefusal (take 167 image) 4 4 is 1
     ∷ readRefusal image 5 4 is 1
     ∷ readRefusal image 4 3 is 1
+    ∷ readRefusal image 4 5 is 1
     ∷ readRefusal image 4 4 is 4
     ∷ readRefusal (writtenOf fresh lastSoiled) 4 4 is 4
     ∷ readRefusal (set (writtenOf fresh valid) 167 1) 4 4 is 4
@@ -120,6 +121,7 @@ writes =
     writeRefusal 168 2 table is 1
     ∷ writeRefusal 40 4 [] is 1
     ∷ writeRefusal 167 4 table is 1
+    ∷ writeRefusal 169 4 table is 1
     ∷ writeRefusal 168 4 table is 4
     ∷ writeRefusal 168 4 lastSoiled is 4
     ∷ writeRefusal 168 4 valid is 0
