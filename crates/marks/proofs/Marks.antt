@@ -1,5 +1,4 @@
 -- Every starred mark holds, by computation.
-use Prim.Native.Nat.{ℕ}
 use mathlib.Core.Path.{_≡_, refl}
 use mathlib.Core.Bool.{true, _&&_}
 use Rattle.record.specs.Valid.{validOf}
@@ -26,9 +25,9 @@ use Rattle.schedule.specs.File.{callsFrom, fileRefusal}
 use Rattle.marks.specs.Marks.{allHold, marks, prints}
 
 pub the-marks-hold : allHold marks && prints ≡ true
-unfolding validOf startOwn startRefusal startOf withdrawOwn withdrawRefusal withdrawOf accessOf judgeOf recheckOf stepOwn stepRefusal
-    stepOf stepLeaves gate callOf measure.runOf measureOf play atEntry inOrder lineOf leaves linesFrom endFrom finishedFrom seenFrom allSame replays allHold
-    numberAt callAt callsFrom digitsOf listingText linesText wordsText
+unfolding validOf startOwn startRefusal startOf withdrawOwn withdrawRefusal withdrawOf accessOf judgeOf recheckOf stepOwn
+    stepRefusal stepOf stepLeaves gate callOf measure.runOf measureOf play atEntry inOrder lineOf leaves linesFrom endFrom
+    finishedFrom seenFrom allSame replays allHold numberAt callAt callsFrom digitsOf listingText linesText wordsText
 the-marks-hold = refl
 
 -- Document 01's nine entries are a file that no check refuses, and the second file is one.
