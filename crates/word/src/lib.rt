@@ -1,4 +1,6 @@
 // A word of the strip and the two accesses that the library makes to one: look and swap.
+#![tactic(auto)]
+
 ghost use Rattle.std.specs.Prelude.{◌≡◌, ◌<◌, length, get_or};
 ghost use Rattle.word.specs.Word.{value_of, counter_of, raised_to, last_counter};
 ghost use Rattle.word.specs.Swap.{swap_of, SwapPromise};
