@@ -1,1 +1,2 @@
 // What a listing shows, read back from its text. No function stands here.
+#![tactic(auto)]
