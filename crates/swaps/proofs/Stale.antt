@@ -10,7 +10,6 @@ use borrow.Author.Tests.{eqb-true, eqb-false}
 use native.Mathlib.Omega.{arith}
 use Rattle.logic.proofs.Lists.{at_set}
 use Rattle.word.specs.Word.{counter_of, raised_to, value_at}
-use Rattle.word.specs.Swap.{Took}
 use Rattle.word.proofs.Laws.{raised_value}
 use Rattle.swaps.specs.Remembered.{Remembered, Fresh, Known, Wins}
 
