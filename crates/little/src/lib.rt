@@ -1,5 +1,7 @@
 // Numbers in lent bytes, least byte first. All are public for the readers and writers of a format, who have checked its length, and
 // ask that the bytes lie inside.
+#![tactic(auto)]
+
 ghost use Rattle.std.specs.Prelude.{◌≡◌, ◌+◌, ◌≤◌, length};
 ghost use Rattle.std.proofs.lemmas.List.Edits.{sets};
 ghost use Rattle.little.specs.Bytes.{number_at, bytes_of};
