@@ -14,7 +14,7 @@ use Rattle.call.specs.Call.{Call, call_of}
 use Rattle.call.proofs.Called.{Called, called}
 
 stepped_bounded : {r next : Record} {number : ℕ} → Stepped r next number → number ≤ 19
-stepped_bounded (Stepped.Going-on number operation v to-2 to-3) = omega arith
+stepped_bounded (Stepped.going_on number operation v to-2 to-3) = omega arith
 stepped_bounded (Stepped.acting (inl number) ended) = omega arith
 stepped_bounded (Stepped.acting (inr number) ended) = omega arith
 stepped_bounded (Stepped.filling number second ended) = omega arith

@@ -149,7 +149,7 @@ module _ (s : State) (entry : ℕ) where
     own_after call size (Own.begins operation order is known none begun-is) =
         begins operation order is begun-is (rw is (rw (rw is at none) (get_or-set_same asked (party_of call) _ nothing_yet (rw size known))))
     own_after call size (Own.withdrawn other none ended) = idles ended
-    own_after call size (Own.steps hint is known busy (Stepped.Going-on none operation v to-2 to-3)) =
+    own_after call size (Own.steps hint is known busy (Stepped.going_on none operation v to-2 to-3)) =
         carries (rw is refl) operation v (λ later. busy)
         (λ now later. no_look_later call (ap is_step is) none busy now)
     own_after call size (Own.steps hint is known busy (Stepped.acting number ended)) = idles ended

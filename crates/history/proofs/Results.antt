@@ -49,7 +49,7 @@ a_result_ends s entry call result = go (own s entry call)
     go (Own.refused refusal same) = absurd (refusal_is_no_result number refusal result)
     go (Own.begins operation order is known none begun-is) = absurd (none_is_no_result none)
     go (Own.withdrawn other none idles) = absurd (none_is_no_result none)
-    go (Own.steps hint is known busy (Stepped.Going-on none operation v to-2 to-3)) = absurd (none_is_no_result none)
+    go (Own.steps hint is known busy (Stepped.going_on none operation v to-2 to-3)) = absurd (none_is_no_result none)
     go (Own.steps hint is known busy (Stepped.acting (inl n) idles)) =
         ended busy idles (λ e. absurd (omega arith)) (λ e. absurd (omega arith))
     go (Own.steps hint is known busy (Stepped.acting (inr n) idles)) =

@@ -59,7 +59,7 @@ module _ (s : State) (entry : ℕ) where
   own_since call (Own.refused refusal same) early = still same (λ mine. refusal)
   own_since call (Own.begins operation order is known none begun-is) early = absurd (too_early begun-is (omega arith) early)
   own_since call (Own.withdrawn other none ended) early = absurd (too_early ended (omega arith) early)
-  own_since call (Own.steps hint is known busy (Stepped.Going-on none operation v to-2 to-3)) early =
+  own_since call (Own.steps hint is known busy (Stepped.going_on none operation v to-2 to-3)) early =
       let from = came_from (record_at (party_of call)) (record_then call (party_of call)) to-2 to-3 early in
       now (rw is (step_looks_now s (party_of call) hint (rw is at none) from.0)) from.1
   own_since call (Own.steps hint is known busy (Stepped.acting number ended)) early = absurd (too_early ended (omega arith) early)

@@ -33,7 +33,7 @@ module _ (strip : List ℕ) (r : Record) (hint : ℕ) where
     where
       go : Stepped r (step_of strip r hint).rec (number_of (step_of strip r hint).answer)
           → is_refusal (number_of (step_of strip r hint).answer) ≡ false
-      go (Stepped.Going-on number operation v to-2 to-3) = rw number refl
+      go (Stepped.going_on number operation v to-2 to-3) = rw number refl
       go (Stepped.acting (inl number) ended) = rw number refl
       go (Stepped.acting (inr number) ended) = rw number refl
       go (Stepped.filling number second ended) = rw number refl
