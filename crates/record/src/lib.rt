@@ -1,10 +1,12 @@
 // The record of a party's operation: the operations and their sides, the record and its makers, and when it is valid.
+#![tactic(auto)]
+
 pub mod make;
 pub mod side;
 pub mod valid;
 
 // The record of a party, as wide as in the image.
-#[derive(Drop)]
+#[derive(Clone, Copy)]
 pub struct Record {
     pub operation: u8,
     pub stage: u8,

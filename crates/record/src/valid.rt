@@ -68,6 +68,7 @@ fn stage_fits(max: u16, r: Record) -> bool
     }
 }
 
+#[tactic(auto, unfolding(crate::specs::Valid::valid_of))]
 pub fn is_valid(max: u16, r: Record) -> bool
     ensures { result ≡ valid_of max r }
 {

@@ -6,7 +6,7 @@ ghost use Rattle.word.specs.Word.{value_of, counter_of, raised_to, last_counter}
 ghost use Rattle.word.specs.Swap.{swap_of, SwapPromise};
 
 // What a swap answers: won; lost, with the word it met; or it would win, but the counter is at its end.
-#[derive(Drop)]
+#[derive(Clone, Copy)]
 pub enum Swapped {
     Won,
     Lost(u64),
