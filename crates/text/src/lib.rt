@@ -1,4 +1,6 @@
 // Text into lent bytes, one piece behind the other. Each answers the place behind what it wrote, and asks that there is room.
+#![tactic(auto)]
+
 ghost use Rattle.std.specs.Prelude.{◌≡◌, ◌∷◌, [], ◌+◌, ◌%◌};
 ghost use Rattle.text.specs.Text.{digits_of, decimal, spaced};
 ghost use Rattle.text.specs.Writing.{Room, Puts};
