@@ -1,9 +1,9 @@
 -- What stands in a local is lent, and comes home. What a walk does with it, in this order:
---   1. On the local's cell `lends-struct`, for a `&mut T`, or `lends-array`, for a `&mut [T]` of the first n elements of an array of structs:
+--   1. On the local's cell `lends_struct`, for a `&mut T`, or `lends_array`, for a `&mut [T]` of the first n elements of an array of structs:
 --      [the loan; its token; what the lender keeps]. The loan and its token go to the callee, with the callee's other arguments.
---   2. After the call, `struct-home` or `array-home` on [the loan's last value; its token; what the lender kept]: the local's cell again.
--- The first n elements as a `&[T]`: `cuts-array` on the cell, [the first n; the others]; `shares-first` on the first n, [the slice; the
--- lender's part; its token]; after the call `ends-share` on [the token; the lender's part], and `joins_array` with the others.
+--   2. After the call, `struct_home` or `array_home` on [the loan's last value; its token; what the lender kept]: the local's cell again.
+-- The first n elements as a `&[T]`: `cuts_array` on the cell, [the first n; the others]; `shares_first` on the first n, [the slice; the
+-- lender's part; its token]; after the call `ends_share` on [the token; the lender's part], and `joins_array` with the others.
 -- Assumes `Logic`.
 use mathlib.Core.Path.{◌≡◌, refl, sym, ◌∙◌, subst}
 use Prim.Native.Nat.{ℕ, ◌≤◌}
@@ -11,25 +11,27 @@ use mathlib.Core.List.{List, [], ◌∷◌, ◌++◌, map}
 use native.Mathlib.Omega.{arith}
 use lib.ListN.{length, length-map, take, drop as leave, take-append-drop}
 use seplogic.Ra.Ura.{Ura}
-use seplogic.Ra.TreeShare.{full_share}
+use base.Fraction.{full_share}
 use mir.Syntax.{Lifetime, Ty, ty_array}
 use mir.Val.{Val, vptr}
-use base.Fml.{GName, Fml, fsep, flft, fres, flent, fat}
+use base.Fml.{Lft, GName, Fml, fsep, flft, fres, flent, fat}
+use base.Logic.{id⊢}
 use types.Logic.{Logic}
-use types.Kit.{Goal, Soaks, Item, ‵, ◌⊛◌, some, later, Seq, Step, step, ◌$◌, move, use1, use2, use3, drop, split, pick, rewrite, fsplit, fjoin, fpick, fpack, feq_l, feq_i, await}
+use types.Kit.{Goal, Soaks, Item, ‵, raw, ◌⊛◌, some, later, Seq, Step, step, ◌$◌, move, use1, use2, use3, drop, split, pick, rewrite, fsplit, fjoin, fpick, fpack, feq_l, feq_i, await}
 use types.Tokens.{lft_new, lft_end, lent_back}
 use types.SemTy.{Body, cells, Arr}
 use types.Share.{arr_parts}
 use denote.RattleType.{RattleType}
 use denote.Laws.{Is, Tells, Makes, shows}
-use denote.Memory.{raw_all, cell_at, lone, part_at, part_of, mem, shares}
+use denote.Memory.{raw_all, cell_at, lone, part_at, part_of, mem, shares, shared_of}
 use denote.Array.{Array, each, array_val, Array-Tells, Array-Makes}
 use denote.ArrayMemory.{Array-apart, Array-whole}
 use denote.Index.{whole_out, whole_in}
 use denote.Index as index
 use denote.Ref.{MutRef}
 use denote.Slice.{slice_val, MutSlice, ShrSlice, Room, finally}
-use denote.Lend.{Held, lends_ref, ref_back, lends_slice, lends_shr_slice, slice_back}
+use denote.Lend.{Held, lends_ref, ref_back, lends_slice, LentShrs, lends_shr_slice, slice_back}
+use denote.Shares.{SharesAsFrom}
 use denote.Steps.{facts, owned}
 use denote.Shadow.{shadow}
 use denote.Struct.Declared.{Declared, row, field, fields}
@@ -47,7 +49,7 @@ abbrev pub IsArray : (T : Declared) (L : LL.Laws T) → ℕ → List T.D → Typ
 IsArray T L n xs = Is (Array (row T) n) xs (array-val T L xs ∷ [])
 
 -- an array of structs that is a field of another struct: there its elements stand as tuples
-each_in_field : (T : Declared) (xs : List T.D) (us : List Val) → shadow (each T.D (row T).own xs us) → shadow (each (field T).row.Denot (field T).row.own_val (map (field T).into xs) us)
+each_in_field : (T : Declared) (xs : List T.D) (us : List Val) → shadow (each T.D (row T).own_val xs us) → shadow (each (field T).row.Denot (field T).row.own_val (map (field T).into xs) us)
 each_in_field T [] [] s = tt
 each_in_field T [] (u ∷ us) s = absurd s
 each_in_field T (x ∷ xs) [] s = absurd s
@@ -63,14 +65,14 @@ LentFirst T n b xs α γ = fsep (flent (α ∷ []) (Held (row T) (length (take n
 module _ {M : Type 1} {𝓤 : Ura M} {𝓛 : Logic 𝓤} {K : Type 0} {Γ : List (Item 𝓤)} {G : Goal 𝓤 𝓛.H} where
   -- a local's cell, of the MIR type τ, as what lies in memory, and back
   lies_in : K → (R : RattleType) → Makes 𝓛 R (Is R) → (τ : Ty) (b : ℕ) (x : R.Denot) (v : Val) → Is R x (v ∷ [])
-      → Step K 𝓛 (‵ (part_of (raw_all (τ ∷ [])) R.own full_share x b 0) ∷ Γ) G (‵ (fat full_share τ b 0 v) ∷ Γ) G
+      → Step K 𝓛 (‵ (part_of (raw_all (τ ∷ [])) R.own_val full_share x b 0) ∷ Γ) G (‵ (fat full_share τ b 0 v) ∷ Γ) G
   unfolding part_of
   lies_in t R makes τ b x v is = step (λ s.
       use1 𝓛 (‵ (cell_at full_share (τ ∷ []) (v ∷ []) b 0)) (𝓛.laws.at_raw full_share τ b 0 v) $ owned t R (Is R) makes x (v ∷ []) is $ move t (1 ∷ 0 ∷ []) $ fjoin t $
-      fpack t (List Val) (λ vs. fsep (cell_at full_share (τ ∷ []) vs b 0) (R.own x vs)) (v ∷ []) $ s)
+      fpack t (List Val) (λ vs. fsep (cell_at full_share (τ ∷ []) vs b 0) (R.own_val x vs)) (v ∷ []) $ s)
 
   lies_out : K → (R : RattleType) (val : R.Denot → Val) → Tells R (Is R) (λ y. val y ∷ []) → (τ : Ty) (b : ℕ) (x : R.Denot)
-      → (Is R x (val x ∷ []) → Seq K 𝓛 (‵ (fat full_share τ b 0 (val x)) ∷ Γ) G) → Seq K 𝓛 (‵ (part_of (raw_all (τ ∷ [])) R.own full_share x b 0) ∷ Γ) G
+      → (Is R x (val x ∷ []) → Seq K 𝓛 (‵ (fat full_share τ b 0 (val x)) ∷ Γ) G) → Seq K 𝓛 (‵ (part_of (raw_all (τ ∷ [])) R.own_val full_share x b 0) ∷ Γ) G
   unfolding part_of
   lies_out t R val tells τ b x k = fpick t (λ vs. fsplit t $ move t (1 ∷ []) $ facts t R (Is R) (shows 𝓛 R) x vs (λ is.
       rewrite t 0 (λ (us : List Val). ‵ (cell_at full_share (τ ∷ []) us b 0)) (tells x vs is) refl $
@@ -128,14 +130,16 @@ module _ {M : Type 1} {𝓤 : Ura M} {𝓛 : Logic 𝓤} {K : Type 0} {Γ : List
       use3 𝓛 (later (‵ ((Arr (mem R) n).own_at ys b 0))) (slice_back 𝓛 R (α ∷ []) γ ys n b 0) $ await t z $ fsplit t $ feq_l t k
 
   -- the first n as a `&`
-  pub shares_first : K → Soaks G → (R : RattleType) (ℓ : Lifetime) (n b : ℕ) (ys : List R.Denot) → length ys ≡ n → Room R (length ys)
-      → ((α : ℕ) (γ : GName) → Seq K 𝓛 (‵ ((ShrSlice ℓ (α ∷ []) R).own_val (record { ref_ptr = (b, 0); now = ys }) (slice_val (b, 0) n ∷ [])) ∷ ‵ (flent (α ∷ []) ((arr_parts (shares R) (length ys)).part full_share ys b 0)) ∷ ‵ (flft (α ∷ []) full_share) ∷ Γ) G)
+  pub shares_first : K → Soaks G → (R : RattleType) → ((l : Lft) → SharesAsFrom 𝓛 full_share R (shared_of R) l) → (ℓ : Lifetime) (n b : ℕ) (ys : List R.Denot) → length ys ≡ n → Room R (length ys)
+      → ((α : ℕ) → Seq K 𝓛 (‵ ((ShrSlice ℓ (α ∷ []) R).own_val (record { ref_ptr = (b, 0); now = ys }) (slice_val (b, 0) n ∷ [])) ∷ ‵ (flent (α ∷ []) ((arr_parts (shares R) (length ys)).part full_share ys b 0)) ∷ ‵ (flft (α ∷ []) full_share) ∷ Γ) G)
       → Seq K 𝓛 (‵ (cells (mem R) ys b 0) ∷ Γ) G
-  shares_first t z R ℓ n b ys l room k =
-      use1 𝓛 (‵ (index.row R full_share ys b 0)) (whole_out 𝓛 R ys b 0) $ feq_i t ℕ (length ys) (length ys) refl $ fjoin t $ lft_new t z (λ α. move t (1 ∷ []) $
-      use1 𝓛 (later (some (λ (γ : GName). ‵ ((ShrSlice ℓ (α ∷ []) R).own_val (record { ref_ptr = (b, 0); now = ys }) (slice_val (b, 0) (length ys) ∷ [])) ⊛ ‵ (flent (α ∷ []) ((arr_parts (shares R) (length ys)).part full_share ys b 0)))))
-      (lends_shr_slice 𝓛 R ℓ (α ∷ []) full_share ys b 0 room) $ await t z $ pick t (λ γ. split t $
-      rewrite t 0 (λ (m : ℕ). ‵ ((ShrSlice ℓ (α ∷ []) R).own_val (record { ref_ptr = (b, 0); now = ys }) (slice_val (b, 0) m ∷ []))) l refl $ k α γ))
+  shares_first t z R shares_it ℓ n b ys l room k =
+      use1 𝓛 (‵ (index.row R full_share ys b 0)) (whole_out 𝓛 R ys b 0) $ feq_i t ℕ (length ys) (length ys) refl $ fjoin t $ lft_new t z (λ α. move t (1 ∷ 0 ∷ []) $
+      use2 𝓛 (later (raw (LentShrs 𝓛 R ℓ (α ∷ []) full_share ys b 0) ⊛ ‵ (flft (α ∷ []) full_share)))
+      (lends_shr_slice 𝓛 R ℓ (α ∷ []) full_share ys b 0 room (α ∷ []) (shares_it (α ∷ [])) ((α ∷ [], full_share) ∷ []) (λ a m. m) (λ a m. m)) $ await t z $ split t $
+      use1 𝓛 (‵ ((ShrSlice ℓ (α ∷ []) R).own_val (record { ref_ptr = (b, 0); now = ys }) (slice_val (b, 0) (length ys) ∷ [])) ⊛ ‵ (flent (α ∷ []) ((arr_parts (shares R) (length ys)).part full_share ys b 0)))
+      (id⊢ 𝓤 (LentShrs 𝓛 R ℓ (α ∷ []) full_share ys b 0)) $ split t $
+      rewrite t 0 (λ (m : ℕ). ‵ ((ShrSlice ℓ (α ∷ []) R).own_val (record { ref_ptr = (b, 0); now = ys }) (slice_val (b, 0) m ∷ []))) l refl $ k α)
 
   pub ends_share : K → Soaks G → (R : RattleType) (b : ℕ) {α : ℕ} (ys : List R.Denot)
       → Step K 𝓛 (‵ (cells (mem R) ys b 0) ∷ Γ) G (‵ (flft (α ∷ []) full_share) ∷ ‵ (flent (α ∷ []) ((arr_parts (shares R) (length ys)).part full_share ys b 0)) ∷ Γ) G

@@ -5,7 +5,7 @@ pub use mathlib.Core.Bool.{not}
 pub use Prim.Native.Nat.{zero-le}
 pub use lib.Dec.{T as Holds, ltb, lit<, nltb→le}
 pub use seplogic.Ra.Ura.{Ura}
-pub use seplogic.Ra.TreeShare.{full_share}
+pub use base.Fraction.{full_share}
 pub use mir.Syntax.{Ty, named, w32, w64, ty_int, ty_ptr}
 pub use mir.Val.{Val, vunit, vint, vptr}
 pub use base.Logic.{SProp, ent, sep, emp, via, fst∗, id⊢}
@@ -14,11 +14,12 @@ pub use prog.Memory.{Memory}
 pub use prog.Routine.{Routine}
 pub use prog.Wp.{Heap, Out, Env, Calls, Loops, Wp, WpFn, Tables, at_return, after_seq, after_block}
 unfoldable pub use prog.Wp.{after_turn}
-pub use ghost.Atoms.{Atoms, sem}
+pub use ghost.Atoms.{Atoms}
+pub use types.Logic.{sem}
 pub use contract.Monad.{Fun}
-pub use contract.Running.{given_of, tables}
+pub use contract.Running.{tables}
 unfoldable pub use contract.Running.{tables_of}
-pub use types.Kit.{Given, Item, ‵, raw, ⋆, runs, any_q, at_ret, Sq, ◌⊛◌, ◌$◌, ◌∵◌, !, qed, by, move, keep, drop, use0, use1, use2, use3, split, join, rewrite, fsplit, fsplit3, fjoin, fjoin3, feq_l, feq_i, suffices, frame, done}
+pub use types.Kit.{Item, ‵, raw, ⋆, runs, any_q, at_ret, Sq, ◌⊛◌, ◌$◌, ◌∵◌, !, qed, by, move, keep, drop, use0, use1, use2, use3, split, join, rewrite, fsplit, fsplit3, fjoin, fjoin3, feq_l, feq_i, suffices, frame, done}
 pub use types.Run.{look, look_raw, store, store_raw, init, stop, hop, fld, from, load, lit, addr, of_opd, un, bin, and_then, no_more, assigns, assigns_last, unit_lit, first, blocks, exec, Below, again, loops, forget, land, returns, returns_within, enter, alloc1, alloc0, params1, pass1, pass0, free0}
 pub use types.Part.{agg, whole, sub, look_in}
 pub use types.SemTy.{Body}

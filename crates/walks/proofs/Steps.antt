@@ -5,32 +5,32 @@
 --   1. What is owned at entry is split, and of it `keep` the obs, the borrow and the token of each `&mut`. `enter`, `alloc1` for each
 --      local, `pass1` for each parameter. Local i of N then stands at 2 · (N − 1 − i), what was kept behind all; whatever is put in
 --      front shifts them. A comment says the context wherever it changes.
---   2. A call of a covered function. Its `pre` is made of its arguments, from the last to the first: `nothing !`, then `with-u32`,
---      `with-usize`, `with-struct` for each, then the tokens (`nothing !` and `join !`, or those that are lent on), then `frame !`.
+--   2. A call of a covered function. Its `pre` is made of its arguments, from the last to the first: `nothing !`, then `with_u32`,
+--      `with_usize`, `with_struct` for each, then the tokens (`nothing !` and `join !`, or those that are lent on), then `frame !`.
 --      Of one that has a `requires`, `says` the fact first, then the tokens and `frame !`, then the arguments.
---      After `calls_at`: `after-plain-call` of a callee that was lent nothing, at the fact that it ensures; `after-lent-call` of one
+--      After `calls_at`: `after_plain_call` of a callee that was lent nothing, at the fact that it ensures; `after_lent_call` of one
 --      that was lent something: its last value is then in the context (`after_call` leaves the fact there too). Before `land`:
---      `result-u32`, `result-unit`, `result-struct`, which write the result's machine value out.
+--      `result_u32`, `result_unit`, `result_struct`, which write the result's machine value out.
 --   3. `if c { return ..; }` is `guards`, the first arm ends in `returns_within`, and `some_number`, `no_number` say what `n != 0`
 --      tells. Both arms must end with the same things: `gives_up` a slice that only one arm lends on.
---   4. One struct behind a `&mut`: `opens-struct` turns [obs; borrow; token] into [its cell; open borrow; obs; auth]; read the cell by
---      `look_raw ! 0 refl`, write it by `store_raw ! 0 refl`; `closes-struct` at what was stored. The call may stand between.
+--   4. One struct behind a `&mut`: `opens_struct` turns [obs; borrow; token] into [its cell; open borrow; obs; auth]; read the cell by
+--      `look_raw ! 0 refl`, write it by `store_raw ! 0 refl`; `closes_struct` at what was stored. The call may stand between.
 --   5. Element i of a `&mut [T]`: `widens` for a u32 index, `scaled_Fits` and `place_is` with T's size for the address, which must be
---      rewritten before `opens-element` turns [obs; borrow; token] into [its cell; the others; open borrow; obs; auth]; then as in 4,
---      and `closes-element` at the list with the new value at i (crates/whole/proofs/read_table).
---      Lent on as a `&mut T` to a function that takes one: the address, rewritten, and its `addr`; then `lends-element` turns [obs; borrow;
---      token] into [the reference; its lifetime's token; `LentElement`]: the first two go to the callee. After `land`, `element-home` at
+--      rewritten before `opens_element` turns [obs; borrow; token] into [its cell; the others; open borrow; obs; auth]; then as in 4,
+--      and `closes_element` at the list with the new value at i (crates/whole/proofs/read_table).
+--      Lent on as a `&mut T` to a function that takes one: the address, rewritten, and its `addr`; then `lends_element` turns [obs; borrow;
+--      token] into [the reference; its lifetime's token; `LentElement`]: the first two go to the callee. After `land`, `element_home` at
 --      [that token; `LentElement`; the last value, a `fres`] gives [obs; borrow; token] back (crates/table/proofs/step_in).
 --   6. A `while i < n` loop. Its invariant is the whole context `At i` at `Upto n`, in which what a turn writes beside it is room; the
---      order is `Nearer n`. Before it `first ! $ blocks ! $ loops ! 𝓣 (Nearer n) (nearer-wf n) At turns (0, zero-le)`. A turn is
+--      order is `Nearer n`. Before it `first ! $ blocks ! $ loops ! 𝓣 (Nearer n) (nearer_wf n) At turns (0, zero-le)`. A turn is
 --      `unfolding after_turn`; its test is `goes_on`, whose second arm is the code after the loop, by `exec`; the last statement is an
---      `assigns_last`, then `forget` what was written, `rewrite` to the next value, `again` at `next-turn` (crates/whole/proofs/read_table).
---   7. A `&[T]` is `shares-on` before each call that it is passed on to, and is `stay_dropped` at exit. Of one that is only read keep its
---      `SharedAll` and the token: element i is `looks-element`, read by `look_raw`, `shuts-element`. Local i's type is `local_ty`.
---   8. A `&mut [T]` that is lent for one call and is needed after it: `lends-on` at [what it owns; its token] before the callee's `pre`,
+--      `assigns_last`, then `forget` what was written, `rewrite` to the next value, `again` at `next_turn` (crates/whole/proofs/read_table).
+--   7. A `&[T]` is `shares_on` before each call that it is passed on to, and is `stay_dropped` at exit. Of one that is only read keep its
+--      `SharedAll` and the token: element i is `looks_element`, read by `look_raw`, `shuts_element`. Local i's type is `local_ty`.
+--   8. A `&mut [T]` that is lent for one call and is needed after it: `lends_on` at [what it owns; its token] before the callee's `pre`,
 --      `comes_home` at [the call's token; `LentAgain`; the last list] after `land` (crates/whole/proofs/write_table).
---   9. `returns`, then `frees_local` for each local in its order, `frees-room` for one that was never written, `free0`. One `exits`
---      lemma shows the contract's `post` from what is left: `keeps-ref`, `keeps-slice` for each `&mut` that is still held.
+--   9. `returns`, then `frees_local` for each local in its order, `frees_room` for one that was never written, `free0`. One `exits`
+--      lemma shows the contract's `post` from what is left: `keeps_ref`, `keeps_slice` for each `&mut` that is still held.
 -- Assumes `Logic`.
 use mathlib.Core.Path.{◌≡◌, refl, sym, ap, subst}
 use Prim.Native.Nat.{ℕ, zero, suc, ◌+◌, ◌-◌, ◌≤◌, ◌<◌, ◌^◌}
@@ -44,29 +44,30 @@ use mathlib.Core.List.{List, [], ◌∷◌}
 use lib.Dec.{T as Holds, ltb, ltb→lt, eqb, eqb→eq, eqb_refl, T_not, lit<}
 use lib.ListN.{length, get_or, set, length-set}
 use seplogic.Ra.Ura.{Ura}
-use seplogic.Ra.TreeShare.{full_share}
+use base.Fraction.{full_share}
 use mir.Syntax
 use mir.Syntax.{Lifetime, Ty, Local, local, ty_unit, Place, Opd as Operand, w32, w64, seq, cond, skip, exit}
 use mir.Val.{Val, vunit, vbool, vint, vptr, Fits}
 use base.Logic.{ent, sep, id⊢, via, mono_l, mono_r}
 use base.Stored.{Gv}
-use base.Fml.{Lft, GName, Share, Fml, fsep, flft, flent, fobs, fauth, fres, fbor, fobor, fshr_bor, fat, froom, fdies}
+use base.Fml.{Lft, GName, Share, Fml, fsep, flft, flent, fobs, fauth, fres, fbor, fobor, fhide, fat, froom, fdies}
 use prog.Wp.{Env, Calls, Loops, Wp, after_seq, exits}
 use types.Logic.{Logic}
 use types.Kit.{prop, Goal, Soaks, Item, mean, ⋆, nth, del, pull, push, frees, runs, lands, Post, post, any_q, ‵, raw, ◌⊛◌, some, later, Seq, Step, step, ◌$◌, move, use1, use2, use3, drop, split, rewrite, pick, fsplit, fjoin, fjoin3, feq_l, feq_i, await}
 use types.Run.{Opd, first, branches, skips, jumps, free1}
 use types.SemTy.{Body}
-use types.Share.{arr_parts}
 use types.Tokens.{lft_new, lft_end}
 use contract.Monad.{fact}
-use denote.RattleType.{RattleType}
-use denote.Laws.{Is, Copy, shows}
+use denote.RattleType.{RattleType, RowLaws}
+use denote.Copied.{Copied}
+use denote.Laws.{Is, shows}
+use denote.Opens.{Shut}
 use denote.Memory.{cell_at, part_at, mem, shares}
 use denote.Shadow.{pure_i}
 use denote.Plain.{uint_Tells, uint_Makes}
 use denote.Builtin.{u32, usize, unit}
 use denote.Ref.{Bor, MutBor, MutRef}
-use denote.Slice.{slice_val, MutSlice, ShrSlice, shr_slice_copy, Room, mut_slice_at, heres, finally, res-finally, coded_holeys}
+use denote.Slice.{slice_val, elements_shared, MutSlice, ShrSlice, shr_slice_copy, Room, mut_slice_at, heres, finally, res-finally, coded_holeys}
 use denote.Lend.{Held, lends_ref, ref_back}
 use denote.Index as index
 use denote.Index.{place, others, takes, puts, elem_out, elem_back, elem_put, opens_slice, closes_slice, looks_slice, shuts_slice}
@@ -83,7 +84,7 @@ use denote.Triple.Clauses.{Ended, Clauses, Lasts, lasts, at_exit, closing}
 
 -- the borrow that a `&[R]` is
 abbrev pub SharedAll : (R : RattleType) → Lft → List R.Denot → ℕ → ℕ → Fml
-SharedAll R κ ys b o = fshr_bor κ (λ s. (arr_parts (shares R) (length ys)).part s ys b o)
+SharedAll R κ ys b o = fhide (elements_shared R ys b o κ)
 
 -- what the holder of a `&mut [R]` keeps while it has lent element i for ν under the name δ: the lender's part, the other elements, and its
 -- own borrow, open
@@ -124,17 +125,17 @@ module _ {M : Type 1} {𝓤 : Ura M} {𝓛 : Logic 𝓤} {K : Type 0} {Γ : List
       closes_slice t z (row T) ys (set ys i y) (length-set ys i y) b o $ s)
 
   -- element i of a `&[T]`, at some share, and back
-  pub looks_element : K → Soaks G → (T : Declared) (L : LL.Laws T) → Copy 𝓛 (row T) → {κ : Lft} {q : Share} (ys : List T.D) (i : ℕ) (d : T.D) (b o : ℕ) → i < length ys
+  pub looks_element : K → Soaks G → (T : Declared) (L : LL.Laws T) → Copied 𝓛 (row T) → {κ : Lft} {q : Share} (ys : List T.D) (i : ℕ) (d : T.D) (b o : ℕ) → i < length ys
       → ((q' : Share) → Is (row T) (get_or ys i d) (LL.vals T L (get_or ys i d))
-      → Seq K 𝓛 (‵ (cell_at q' (row T).mir (LL.vals T L (get_or ys i d)) b (place (mem (row T)).size o i)) ∷ ‵ ((row T).own (get_or ys i d) (LL.vals T L (get_or ys i d))) ∷ ‵ (others (shares (row T)) q' ys i b o)
-      ∷ ‵ (fobor κ q ((arr_parts (shares (row T)) (length ys)).part q' ys b o)) ∷ ‵ (SharedAll (row T) κ ys b o) ∷ Γ) G)
+      → Seq K 𝓛 (‵ (cell_at q' (row T).mir (LL.vals T L (get_or ys i d)) b (place (mem (row T)).size o i)) ∷ ‵ ((row T).own_val (get_or ys i d) (LL.vals T L (get_or ys i d))) ∷ ‵ (others (shares (row T)) q' ys i b o)
+      ∷ Shut 𝓛 κ q (index.row (row T) q' ys b o) ∷ ‵ (SharedAll (row T) κ ys b o) ∷ Γ) G)
       → Seq K 𝓛 (‵ (SharedAll (row T) κ ys b o) ∷ ‵ (flft κ q) ∷ Γ) G
   looks_element t z T L copy ys i d b o l k =
-      looks_slice t z (row T) (Is (row T)) (shows 𝓛 (row T)) (LL.vals T L) (LL.tells T L) copy ys b o (λ q'. elem_out t (row T) (Is (row T)) (shows 𝓛 (row T)) (LL.vals T L) (LL.tells T L) q' ys i d b o l (k q'))
+      looks_slice t z (row T) copy ys b o (λ q'. elem_out t (row T) (Is (row T)) (shows 𝓛 (row T)) (LL.vals T L) (LL.tells T L) q' ys i d b o l (k q'))
 
   pub shuts_element : K → Soaks G → (T : Declared) (L : LL.Laws T) → {κ : Lft} {q : Share} (q' : Share) (ys : List T.D) (i : ℕ) (d : T.D) (b o : ℕ) → i < length ys
-      → Step K 𝓛 (‵ (flft κ q) ∷ Γ) G (‵ (cell_at q' (row T).mir (LL.vals T L (get_or ys i d)) b (place (mem (row T)).size o i)) ∷ ‵ ((row T).own (get_or ys i d) (LL.vals T L (get_or ys i d))) ∷ ‵ (others (shares (row T)) q' ys i b o)
-      ∷ ‵ (fobor κ q ((arr_parts (shares (row T)) (length ys)).part q' ys b o)) ∷ Γ) G
+      → Step K 𝓛 (‵ (flft κ q) ∷ Γ) G (‵ (cell_at q' (row T).mir (LL.vals T L (get_or ys i d)) b (place (mem (row T)).size o i)) ∷ ‵ ((row T).own_val (get_or ys i d) (LL.vals T L (get_or ys i d))) ∷ ‵ (others (shares (row T)) q' ys i b o)
+      ∷ Shut 𝓛 κ q (index.row (row T) q' ys b o) ∷ Γ) G
   shuts_element t z T L q' ys i d b o l = step (λ s. elem_back t (row T) q' ys i d (LL.vals T L (get_or ys i d)) b o l $ shuts_slice t z (row T) q' ys b o $ s)
 
   -- element i of a `&mut [R]` is lent as a `&mut R` for the lifetime ν of a call, and comes home at the value that the call left
@@ -215,7 +216,7 @@ dies_out {𝓤 = 𝓤} 𝓛 Γ n {τ} {b} d =
     (push 𝓛 (‵ (fdies τ b)) (del 𝓛 n (del 𝓛 n Γ)))
 
 module _ {M : Type 1} {𝓤 : Ura M} {𝓛 : Logic 𝓤} {K : Type 0} {Γ : List (Item 𝓤)} where
-  -- a local is freed: entry n is its cell and the next its `dies`. Where it was never written, `frees-room`
+  -- a local is freed: entry n is its cell and the next its `dies`. Where it was never written, `frees_room`
   open 𝓛 use {H}
 
   pub frees_local : K → (n : ℕ) {τ : Ty} {b : ℕ} {v : Val} {E : Env 𝓤 H} {g : Goal 𝓤 H} → nth 𝓛 n Γ ≡ ‵ (fat full_share τ b zero v) → nth 𝓛 n (del 𝓛 n Γ) ≡ ‵ (fdies τ b)
@@ -279,9 +280,9 @@ local_ty (local τ h ∷ ls) (suc i) = local_ty ls i
 -- last with `nothing !`
 module _ {M : Type 1} {𝓤 : Ura M} {𝓛 : Logic 𝓤} {K : Type 0} {Γ : List (Item 𝓤)} {G : Goal 𝓤 𝓛.H} where
   -- a `&[R]` is there once more
-  pub shares_on : K → (ℓ : Lifetime) (κ : Lft) (R : RattleType) (x : Bor (List R.Denot)) (vs : List Val)
+  pub shares_on : K → (ℓ : Lifetime) (κ : Lft) (R : RattleType) → RowLaws R → (x : Bor (List R.Denot)) (vs : List Val)
       → Step K 𝓛 (‵ ((ShrSlice ℓ κ R).own_val x vs) ∷ ‵ ((ShrSlice ℓ κ R).own_val x vs) ∷ Γ) G (‵ ((ShrSlice ℓ κ R).own_val x vs) ∷ Γ) G
-  shares_on t ℓ κ R x vs = step (λ s. use1 𝓛 (‵ ((ShrSlice ℓ κ R).own_val x vs) ⊛ ‵ ((ShrSlice ℓ κ R).own_val x vs)) ((shr_slice_copy 𝓛 ℓ κ R).twice x vs) $ split t $ s)
+  shares_on t ℓ κ R laws x vs = step (λ s. use1 𝓛 (‵ ((ShrSlice ℓ κ R).own_val x vs) ⊛ ‵ ((ShrSlice ℓ κ R).own_val x vs)) ((shr_slice_copy 𝓛 ℓ κ R laws).twice x vs) $ split t $ s)
 
   pub with_u32 : K → {P : Fml} (n : ℕ) → n < 2 ^ 32 → Step K 𝓛 (‵ (fsep (u32.own_val n (vint w32 n ∷ [])) P) ∷ Γ) G (‵ P ∷ Γ) G
   with_u32 t n fits = step (λ s. owned t u32 (Is u32) (uint_Makes 𝓛 w32) n (vint w32 n ∷ []) (refl, fits) $ fjoin t $ s)
@@ -290,7 +291,7 @@ module _ {M : Type 1} {𝓤 : Ura M} {𝓛 : Logic 𝓤} {K : Type 0} {Γ : List
   with_usize t n fits = step (λ s. owned t usize (Is usize) (uint_Makes 𝓛 w64) n (vint w64 n ∷ []) (refl, fits) $ fjoin t $ s)
 
   pub with_struct : K → {P : Fml} (T : Declared) (L : LL.Laws T) → Plains (fields T) → (h : T.D) → Is (row T) h (LL.vals T L h)
-      → Step K 𝓛 (‵ (fsep ((row T).own h (LL.vals T L h)) P) ∷ Γ) G (‵ P ∷ Γ) G
+      → Step K 𝓛 (‵ (fsep ((row T).own_val h (LL.vals T L h)) P) ∷ Γ) G (‵ P ∷ Γ) G
   with_struct t T L pl h is = step (λ s. owned t (row T) (Is (row T)) (LL.makes T pl 𝓛) h (LL.vals T L h) is $ fjoin t $ s)
 
   -- a `&mut R` and a `&mut [R]` that are kept, from the obs and the borrow at their last values
@@ -315,7 +316,7 @@ module _ {M : Type 1} {𝓤 : Ura M} {𝓛 : Logic 𝓤} {K : Type 0} {Γ : List
   result_unit t w = step (λ s. feq_l t (λ e. result_is t (ap only e) s))
 
   pub result_struct : K → (T : Declared) (L : LL.Laws T) (h : T.D) (w : Val) → (Is (row T) h (LL.vals T L h) → Seq K 𝓛 Γ (lands C Λ E d (LL.val T L h) rest q))
-      → Seq K 𝓛 (‵ ((row T).own h (w ∷ [])) ∷ Γ) (lands C Λ E d w rest q)
+      → Seq K 𝓛 (‵ ((row T).own_val h (w ∷ [])) ∷ Γ) (lands C Λ E d w rest q)
   result_struct t T L h w k = facts t (row T) (Is (row T)) (shows 𝓛 (row T)) h (w ∷ []) (λ is.
       result_is t (ap only (LL.tells T L h (w ∷ []) is)) (k (subst (Is (row T) h) (LL.tells T L h (w ∷ []) is) is)))
 
