@@ -1,4 +1,6 @@
 // A party: what a call answers, and the two calls that need no strip.
+#![tactic(auto)]
+
 pub mod make;
 
 ghost use Rattle.std.specs.Prelude.{◌≡◌};
@@ -14,7 +16,7 @@ use record::side::order_fits;
 use record::valid::is_valid;
 
 // What a call answers: specs/Answer.antt gives document 01's number and carried order for each case.
-#[derive(Drop)]
+#[derive(Clone, Copy)]
 pub enum Answer {
     GoesOn,
     Pushed,
@@ -25,7 +27,7 @@ pub enum Answer {
 }
 
 // The answer of a call that was handed a record by value, and the record it leaves.
-#[derive(Drop)]
+#[derive(Clone, Copy)]
 pub struct Answered {
     pub answer: Answer,
     pub rec: Record,
@@ -66,6 +68,7 @@ fn max_fits(max: u32) -> bool
 }
 
 // The record's own checks, public for the other kinds of memory.
+#[tactic(auto, unfolding(crate::specs::Calls::start_own))]
 pub fn start_own(max: u16, r: Record, operation: u8, order: u32) -> u32
     ensures { result ≡ start_own max r operation order }
 {
@@ -81,6 +84,7 @@ pub fn start_own(max: u16, r: Record, operation: u8, order: u32) -> u32
     0
 }
 
+#[tactic(auto, unfolding(crate::specs::Calls::start_refusal))]
 fn start_refusal(max: u32, r: Record, operation: u32, order: u32) -> u32
     ensures { result ≡ start_refusal max r operation order }
 {
@@ -94,6 +98,7 @@ fn start_refusal(max: u32, r: Record, operation: u32, order: u32) -> u32
 }
 
 // Start: operation and order into an idle record.
+#[tactic(auto, using(crate::proofs::Cleared::startable), unfolding(crate::specs::Calls::start_of))]
 pub fn start(max: u32, r: Record, operation: u32, order: u32) -> Answered
     ensures { result ≡ start_of max r operation order }
 {
@@ -104,12 +109,14 @@ pub fn start(max: u32, r: Record, operation: u32, order: u32) -> Answered
     going_on(begun_record(operation as u8, order))
 }
 
+#[tactic(auto, unfolding(crate::specs::Calls::withdraw_own))]
 pub fn withdraw_own(max: u16, r: Record) -> u32
     ensures { result ≡ withdraw_own max r }
 {
     pick_u32(!is_valid(max, r), 4, pick_u32(r.stage == 0, 6, 0))
 }
 
+#[tactic(auto, unfolding(crate::specs::Calls::withdraw_refusal))]
 fn withdraw_refusal(max: u32, r: Record) -> u32
     ensures { result ≡ withdraw_refusal max r }
 {
@@ -120,6 +127,7 @@ fn withdraw_refusal(max: u32, r: Record) -> u32
 }
 
 // Withdraw: a busy record becomes all zero.
+#[tactic(auto, unfolding(crate::specs::Calls::withdraw_of))]
 pub fn withdraw(max: u32, r: Record) -> Answered
     ensures { result ≡ withdraw_of max r }
 {
