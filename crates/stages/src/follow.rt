@@ -30,6 +30,7 @@ fn is_pop_at_far(r: Record) -> bool
     !is_push(r.operation) & (value(r.first) == far_null(r.operation))
 }
 
+#[tactic(auto, unfolding(crate::specs::Follow::judge_of))]
 fn judge(max: u16, r: Record, word: u64) -> Answered
     ensures { result ≡ judge_of max r word }
 {
@@ -45,6 +46,7 @@ fn judge(max: u16, r: Record, word: u64) -> Answered
     going_on(at_stage(4, with_second(word, r)))
 }
 
+#[tactic(auto, unfolding(crate::specs::Follow::recheck_of))]
 fn recheck(r: Record, word: u64) -> Answered
     ensures { result ≡ recheck_of r word }
 {

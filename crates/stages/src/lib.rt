@@ -1,5 +1,7 @@
 // Document 01's table of stages: the one access that a stage makes, and what follows it. It makes no access itself, so it serves every
 // kind of memory.
+#![tactic(auto)]
+
 pub mod follow;
 
 ghost use Rattle.std.specs.Prelude.{◌≡◌};
@@ -10,7 +12,7 @@ use record::side::{neighbour_of, own_null};
 use word::value;
 
 // What follows a look: the word is remembered as the first; as the second, and judged; or rechecks the first.
-#[derive(Drop)]
+#[derive(Clone, Copy)]
 pub enum AfterLook {
     Remember,
     Judge,
@@ -18,7 +20,7 @@ pub enum AfterLook {
 }
 
 // What follows a swap that won: stage 5, or the push or the pop is done. One that lost goes to stage 1.
-#[derive(Drop)]
+#[derive(Clone, Copy)]
 pub enum AfterSwap {
     Onward,
     Push,
@@ -26,13 +28,14 @@ pub enum AfterSwap {
 }
 
 // What a stage does: one access, and what follows it. A swap goes from a word to a value.
-#[derive(Drop)]
+#[derive(Clone, Copy)]
 pub enum Access {
     Look(u32, AfterLook),
     Swap(u32, u64, u32, AfterSwap),
 }
 
 // The table, as one match.
+#[tactic(auto, unfolding(crate::specs::Stages::access_of))]
 pub fn access_of(r: Record) -> Access
     ensures { result ≡ access_of r }
 {
