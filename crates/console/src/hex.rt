@@ -2,7 +2,7 @@
 ghost use Rattle.std.specs.Prelude.{◌+◌, ◌*◌, ◌≤◌, length};
 
 use crate::line::{same, skip};
-use libc::STDOUT_FILENO;
+use std::io;
 
 // Room for the bytes of an image, more than the largest has.
 pub fn byte_room() -> [u8; 33792] {
@@ -113,12 +113,12 @@ fn spell(bytes: &[u8], text: &mut [u8]) -> usize
 }
 
 // The bytes of an image: `-` for none.
-pub fn hex(bytes: &[u8]) {
-    io::write_all(STDOUT_FILENO, b" ");
+pub fn hex(rt: &impl Print, bytes: &[u8]) -> io::Result<()> {
+    rt.write_all(b" ")?;
     if bytes.len() == 0 {
-        io::write_all(STDOUT_FILENO, b"-");
+        rt.write_all(b"-")?;
     }
     let mut text = digit_room();
     let n = spell(bytes, &mut text);
-    io::write_all(STDOUT_FILENO, &text[0..n]);
+    rt.write_all(&text[0..n])
 }

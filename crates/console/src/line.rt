@@ -1,7 +1,8 @@
 // A line, and its fields.
-ghost use Rattle.std.specs.Prelude.{◌≤◌, length};
+ghost use Rattle.std.specs.Prelude.{◌≤◌, length, IfOk};
 
-use libc::STDIN_FILENO;
+use std::io;
+use std::io::Read;
 
 // Room for the longest line, which writes an image: 4,097 words and 17 records, each number a blank and up to 20 digits, and 33,352 bytes,
 // which is more than the largest image has, so that one that is too long can be shown.
@@ -16,12 +17,12 @@ enum Got {
     End,
 }
 
-fn next_byte() -> Got {
+fn next_byte(input: &mut impl Read) -> io::Result<Got> {
     let mut byte = [0u8; 1];
-    if libc::read(STDIN_FILENO, &mut byte) < 1 {
-        return Got::End;
+    if input.read(&mut byte)? < 1 {
+        return Ok(Got::End);
     }
-    Got::Byte(byte[0])
+    Ok(Got::Byte(byte[0]))
 }
 
 fn keep(line: &mut [u8], at: usize, b: u8) {
@@ -32,33 +33,33 @@ fn keep(line: &mut [u8], at: usize, b: u8) {
 
 // Reads up to the end of a line, and answers how many bytes it has with its newline: 0 at the end of the input. What the buffer has no
 // place for is read and counted, and not kept.
-fn read_all(line: &mut [u8]) -> usize {
+fn read_all(input: &mut impl Read, line: &mut [u8]) -> io::Result<usize> {
     let mut n: usize = 0;
     while n < 4294967295 {
-        let Got::Byte(b) = next_byte() else {
-            return n;
+        let Got::Byte(b) = next_byte(input)? else {
+            return Ok(n);
         };
         keep(line, n, b);
         n += 1;
         if b == 10 {
-            return n;
+            return Ok(n);
         }
     }
-    n
+    Ok(n)
 }
 
 // Reads a line, and answers how many bytes it has with its newline: 0 at the end of the input. For a line that the buffer has no place for
 // stands an empty one. Public for the text doors, whose buffer has room.
-pub fn read_line(line: &mut [u8]) -> usize
+pub fn read_line(input: &mut impl Read, line: &mut [u8]) -> io::Result<usize>
     requires { 1 ≤ length line.old }
-    ensures { result ≤ length line.new }
+    ensures { IfOk result (λ n. n ≤ length line.new) }
 {
-    let n = read_all(line);
+    let n = read_all(input, line)?;
     if n <= line.len() {
-        return n;
+        return Ok(n);
     }
     keep(line, 0, 10);
-    1
+    Ok(1)
 }
 
 fn is_blank(b: u8) -> bool {

@@ -5,6 +5,7 @@ use crate::number::compared;
 use crate::say::more;
 use record::Record;
 use record::make::idle_record;
+use std::io;
 
 // Whether six numbers after a first fit a record. Public for tables, which have counted the numbers.
 pub fn fits_record(given: &[u64]) -> bool
@@ -50,11 +51,11 @@ pub fn first_record(given: &[u64]) -> Handed {
     }
 }
 
-pub fn say_record(r: Record) {
-    more(r.operation as u64);
-    more(r.stage as u64);
-    more(r.k as u64);
-    more(r.v as u64);
-    more(r.first);
-    more(r.second);
+pub fn say_record(rt: &impl Print, r: Record) -> io::Result<()> {
+    more(rt, r.operation as u64)?;
+    more(rt, r.stage as u64)?;
+    more(rt, r.k as u64)?;
+    more(rt, r.v as u64)?;
+    more(rt, r.first)?;
+    more(rt, r.second)
 }

@@ -1,32 +1,32 @@
 // What is written.
-use libc::STDOUT_FILENO;
+use std::io;
 
-pub fn first(n: u64) {
-    io::print_decimal(STDOUT_FILENO, n);
+pub fn first(rt: &impl Print, n: u64) -> io::Result<()> {
+    print!(rt; "{n}")
 }
 
-pub fn more(n: u64) {
-    io::write_all(STDOUT_FILENO, b" ");
-    io::print_decimal(STDOUT_FILENO, n);
+pub fn more(rt: &impl Print, n: u64) -> io::Result<()> {
+    print!(rt; " {n}")
 }
 
-pub fn words(strip: &[u64]) {
+pub fn words(rt: &impl Print, strip: &[u64]) -> io::Result<()> {
     let mut i = 0;
     while i < strip.len() {
-        more(strip[i]);
+        more(rt, strip[i])?;
         i += 1;
     }
+    Ok(())
 }
 
 // Ends the answer of a line of so many bytes, which is `?` where the line was not known. Answers whether there was one: a line of no
 // bytes is the end of the input.
-pub fn end_line(bytes: usize, known: bool) -> bool {
+pub fn end_line(rt: &impl Print, bytes: usize, known: bool) -> io::Result<bool> {
     if bytes == 0 {
-        return false;
+        return Ok(false);
     }
     if !known {
-        io::write_all(STDOUT_FILENO, b"?");
+        rt.write_all(b"?")?;
     }
-    io::write_all(STDOUT_FILENO, b"\n");
-    true
+    rt.write_all(b"\n")?;
+    Ok(true)
 }

@@ -4,6 +4,7 @@ ghost use Rattle.std.specs.Prelude.{◌+◌, ◌*◌, ◌≤◌, length};
 use crate::records::{fits_record, record_of, say_record};
 use record::Record;
 use record::make::idle_record;
+use std::io;
 
 // Records that were given, one more than a table may have, so that a table that is too long can be shown; and whether they were all there
 // and fit their fields.
@@ -51,12 +52,13 @@ pub fn records_of(given: &[u64]) -> Given
 }
 
 // So many records of a table. Public for the text doors, which have counted them.
-pub fn say_records(table: [Record; 17], count: usize)
+pub fn say_records(rt: &impl Print, table: [Record; 17], count: usize) -> io::Result<()>
     requires { count ≤ 17 }
 {
     let mut i: usize = 0;
     while i < count {
-        say_record(table[i]);
+        say_record(rt, table[i])?;
         i += 1;
     }
+    Ok(())
 }
