@@ -4,102 +4,106 @@ use console::records::{first_record, say_record};
 use console::say::{first, more, words};
 use find::Found;
 use party::{Answered, carried, number};
+use std::io;
 use strip::{Laid, Measured};
 
 // The number, the carried order and the record.
-fn answered(got: Answered) {
+fn answered(rt: &impl Print, got: Answered) -> io::Result<()> {
     let answer = got.answer;
     let r = got.rec;
-    first(number(answer) as u64);
-    more(carried(answer) as u64);
-    say_record(r);
+    first(rt, number(answer) as u64)?;
+    more(rt, carried(answer) as u64)?;
+    say_record(rt, r)
 }
 
-pub fn lay(given: &mut [u64]) -> bool {
+pub fn lay(rt: &impl Print, given: &mut [u64]) -> io::Result<bool> {
     if given.len() < 1 {
-        return false;
+        return Ok(false);
     }
     let divide = compared(given[0]);
     match strip::lay(&mut given[1..], divide) {
-        Laid::Fresh => first(0),
-        Laid::NotLaid(number) => first(number as u64),
+        Laid::Fresh => first(rt, 0)?,
+        Laid::NotLaid(number) => first(rt, number as u64)?,
     }
-    words(&given[1..]);
-    true
+    words(rt, &given[1..])?;
+    Ok(true)
 }
 
-fn found(got: Found) -> bool {
+fn found(rt: &impl Print, got: Found) -> io::Result<bool> {
     match got {
         Found::Place(place) => {
-            first(0);
-            more(place as u64);
+            first(rt, 0)?;
+            more(rt, place as u64)?;
         }
         Found::NotFound(number) => {
-            first(number as u64);
-            more(0);
+            first(rt, number as u64)?;
+            more(rt, 0)?;
         }
     }
-    true
+    Ok(true)
 }
 
 // From the right, or from the left.
-pub fn find(side: usize, given: &[u64]) -> bool {
+pub fn find(rt: &impl Print, side: usize, given: &[u64]) -> io::Result<bool> {
     match side {
-        0 => found(find::find_right(given)),
-        1 => found(find::find_left(given)),
-        _ => false,
+        0 => found(rt, find::find_right(given)),
+        1 => found(rt, find::find_left(given)),
+        _ => Ok(false),
     }
 }
 
-fn measured(number: u32, left: u32, orders: u32, right: u32) -> bool {
-    first(number as u64);
-    more(left as u64);
-    more(orders as u64);
-    more(right as u64);
-    true
+fn measured(rt: &impl Print, number: u32, left: u32, orders: u32, right: u32) -> io::Result<bool> {
+    first(rt, number as u64)?;
+    more(rt, left as u64)?;
+    more(rt, orders as u64)?;
+    more(rt, right as u64)?;
+    Ok(true)
 }
 
-pub fn measure(given: &[u64]) -> bool {
+pub fn measure(rt: &impl Print, given: &[u64]) -> io::Result<bool> {
     match strip::measure(given) {
-        Measured::Shape(left, orders, right) => measured(0, left, orders, right),
-        Measured::NotMeasured(number) => measured(number, 0, 0, 0),
+        Measured::Shape(left, orders, right) => measured(rt, 0, left, orders, right),
+        Measured::NotMeasured(number) => measured(rt, number, 0, 0, 0),
     }
 }
 
-pub fn start(given: &[u64]) -> bool {
+pub fn start(rt: &impl Print, given: &[u64]) -> io::Result<bool> {
     let got = first_record(given);
     if !got.fits | (given.len() != 9) {
-        return false;
+        return Ok(false);
     }
     let order = number_at(given, 8);
     if 4294967295 < order {
-        return false;
+        return Ok(false);
     }
     let r = got.rec;
-    answered(party::start(got.first, r, compared(number_at(given, 7)), order as u32));
-    true
+    answered(
+        rt,
+        party::start(got.first, r, compared(number_at(given, 7)), order as u32),
+    )?;
+    Ok(true)
 }
 
-pub fn withdraw(given: &[u64]) -> bool {
+pub fn withdraw(rt: &impl Print, given: &[u64]) -> io::Result<bool> {
     let got = first_record(given);
     if !got.fits | (given.len() != 7) {
-        return false;
+        return Ok(false);
     }
     let r = got.rec;
-    answered(party::withdraw(got.first, r));
-    true
+    answered(rt, party::withdraw(got.first, r))?;
+    Ok(true)
 }
 
-pub fn step_on(given: &mut [u64]) -> bool {
+pub fn step_on(rt: &impl Print, given: &mut [u64]) -> io::Result<bool> {
     if given.len() < 7 {
-        return false;
+        return Ok(false);
     }
     let got = first_record(given);
     if !got.fits {
-        return false;
+        return Ok(false);
     }
     let r = got.rec;
-    answered(step::step(&mut given[7..], r, got.first));
-    words(&given[7..]);
-    true
+    answered(rt, step::step(&mut given[7..], r, got.first))?;
+    words(rt, &given[7..])?;
+    Ok(true)
 }

@@ -11,6 +11,8 @@
 // Numbers are decimal, below 2^64 (ORDER below 2^32), with blanks between. A RECORD is six numbers: operation, stage, k, v, first and
 // second, which fit its fields. WORDS are the words of a strip, up to 4,097. A line has up to 163,840 bytes. Any other line is answered
 // `?`.
+#![tactic(auto)]
+
 mod calls;
 
 ghost use Rattle.std.specs.Prelude.{◌≤◌, length};
@@ -19,29 +21,30 @@ use crate::calls::{find, lay, measure, start, step_on, withdraw};
 use console::line::{line_room, past, read_line, which};
 use console::number::{number_room, numbers};
 use console::say::end_line;
+use std::io;
 
 // Answers a line that asks to find, from the place after that word on.
-fn answer_find(line: &[u8], from: usize) -> bool
+fn answer_find(rt: &impl Print, line: &[u8], from: usize) -> io::Result<bool>
     requires { from ≤ length line.now }
 {
     let side = which(line, from, b"right left");
     let mut room = number_room();
     let n = numbers(line, past(line, from), &mut room);
     if room.len() < n {
-        return false;
+        return Ok(false);
     }
-    find(side, &room[0..n])
+    find(rt, side, &room[0..n])
 }
 
 // The commands but for find, by their places in the list above.
-fn call(command: usize, given: &mut [u64]) -> bool {
+fn call(rt: &impl Print, command: usize, given: &mut [u64]) -> io::Result<bool> {
     match command {
-        0 => lay(given),
-        2 => measure(given),
-        3 => start(given),
-        4 => withdraw(given),
-        5 => step_on(given),
-        _ => false,
+        0 => lay(rt, given),
+        2 => measure(rt, given),
+        3 => start(rt, given),
+        4 => withdraw(rt, given),
+        5 => step_on(rt, given),
+        _ => Ok(false),
     }
 }
 
@@ -51,32 +54,34 @@ fn command_of(line: &[u8]) -> usize {
 }
 
 // Answers a line, or says that it does not parse.
-fn answer(line: &[u8]) -> bool {
+fn answer(rt: &impl Print, line: &[u8]) -> io::Result<bool> {
     let command = command_of(line);
     let from = past(line, 0);
     if command == 1 {
-        return answer_find(line, from);
+        return answer_find(rt, line, from);
     }
     let mut room = number_room();
     let n = numbers(line, from, &mut room);
     if room.len() < n {
-        return false;
+        return Ok(false);
     }
-    call(command, &mut room[0..n])
+    call(rt, command, &mut room[0..n])
 }
 
 // One line of the input. Answers whether there was one.
-fn turn() -> bool {
+fn turn(rt: &HostRuntime) -> io::Result<bool> {
     let mut line = line_room();
-    let n = read_line(&mut line);
-    end_line(n, answer(&line[0..n]))
+    let n = read_line(&mut rt.stdin(), &mut line)?;
+    let known = answer(rt, &line[0..n])?;
+    end_line(rt, n, known)
 }
 
 // The loop ends at a number that no input reaches, for a proved loop has to end.
-fn main() {
+fn main(rt: HostRuntime) -> io::Result<()> {
     for _ in 0..u64::MAX {
-        if !turn() {
-            return;
+        if !turn(&rt)? {
+            return Ok(());
         }
     }
+    Ok(())
 }

@@ -11,6 +11,8 @@
 // Numbers are decimal, below 2^64 (ORDER below 2^32), with blanks between. A RECORD is six numbers: operation, stage, k, v, first and
 // second, which fit its fields. N counts the RECORDs of the lent table, up to 17. WORDS are the words of a strip, up to 4,097. A line has
 // up to 163,840 bytes. Any other line is answered `?`.
+#![tactic(auto)]
+
 mod lent;
 mod records;
 mod tables;
@@ -20,17 +22,18 @@ use crate::tables::{start_in, step_in, withdraw_in};
 use console::line::{line_room, past, read_line, which};
 use console::number::{number_room, numbers};
 use console::say::end_line;
+use std::io;
 
 // The commands, by their places in the list above.
-fn call(command: usize, given: &mut [u64]) -> bool {
+fn call(rt: &impl Print, command: usize, given: &mut [u64]) -> io::Result<bool> {
     match command {
-        0 => start_record(given),
-        1 => withdraw_record(given),
-        2 => step_record(given),
-        3 => start_in(given),
-        4 => withdraw_in(given),
-        5 => step_in(given),
-        _ => false,
+        0 => start_record(rt, given),
+        1 => withdraw_record(rt, given),
+        2 => step_record(rt, given),
+        3 => start_in(rt, given),
+        4 => withdraw_in(rt, given),
+        5 => step_in(rt, given),
+        _ => Ok(false),
     }
 }
 
@@ -44,27 +47,29 @@ fn command_of(line: &[u8]) -> usize {
 }
 
 // Answers a line, or says that it does not parse.
-fn answer(line: &[u8]) -> bool {
+fn answer(rt: &impl Print, line: &[u8]) -> io::Result<bool> {
     let mut room = number_room();
     let n = numbers(line, past(line, 0), &mut room);
     if room.len() < n {
-        return false;
+        return Ok(false);
     }
-    call(command_of(line), &mut room[0..n])
+    call(rt, command_of(line), &mut room[0..n])
 }
 
 // One line of the input. Answers whether there was one.
-fn turn() -> bool {
+fn turn(rt: &HostRuntime) -> io::Result<bool> {
     let mut line = line_room();
-    let n = read_line(&mut line);
-    end_line(n, answer(&line[0..n]))
+    let n = read_line(&mut rt.stdin(), &mut line)?;
+    let known = answer(rt, &line[0..n])?;
+    end_line(rt, n, known)
 }
 
 // The loop ends at a number that no input reaches, for a proved loop has to end.
-fn main() {
+fn main(rt: HostRuntime) -> io::Result<()> {
     for _ in 0..u64::MAX {
-        if !turn() {
-            return;
+        if !turn(&rt)? {
+            return Ok(());
         }
     }
+    Ok(())
 }

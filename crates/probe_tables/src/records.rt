@@ -4,54 +4,58 @@ use crate::lent::{start_alone, step_alone, withdraw_alone};
 use console::number::{compared, number_at};
 use console::records::{first_record, say_record};
 use console::say::{first, more, words};
+use std::io;
 use table::{Said, Told};
 
 // The number and the carried order.
-pub fn said(got: Said) {
-    first(got.number as u64);
-    more(got.carried as u64);
+pub fn said(rt: &impl Print, got: Said) -> io::Result<()> {
+    first(rt, got.number as u64)?;
+    more(rt, got.carried as u64)
 }
 
-fn told(got: Told) {
-    said(got.said);
+fn told(rt: &impl Print, got: Told) -> io::Result<()> {
+    said(rt, got.said)?;
     let r = got.rec;
-    say_record(r);
+    say_record(rt, r)
 }
 
-pub fn start_record(given: &[u64]) -> bool {
+pub fn start_record(rt: &impl Print, given: &[u64]) -> io::Result<bool> {
     let got = first_record(given);
     if !got.fits | (given.len() != 9) {
-        return false;
+        return Ok(false);
     }
     let order = number_at(given, 8);
     if 4294967295 < order {
-        return false;
+        return Ok(false);
     }
     let r = got.rec;
-    told(start_alone(got.first, r, compared(number_at(given, 7)), order as u32));
-    true
+    told(
+        rt,
+        start_alone(got.first, r, compared(number_at(given, 7)), order as u32),
+    )?;
+    Ok(true)
 }
 
-pub fn withdraw_record(given: &[u64]) -> bool {
+pub fn withdraw_record(rt: &impl Print, given: &[u64]) -> io::Result<bool> {
     let got = first_record(given);
     if !got.fits | (given.len() != 7) {
-        return false;
+        return Ok(false);
     }
     let r = got.rec;
-    told(withdraw_alone(got.first, r));
-    true
+    told(rt, withdraw_alone(got.first, r))?;
+    Ok(true)
 }
 
-pub fn step_record(given: &mut [u64]) -> bool {
+pub fn step_record(rt: &impl Print, given: &mut [u64]) -> io::Result<bool> {
     if given.len() < 7 {
-        return false;
+        return Ok(false);
     }
     let got = first_record(given);
     if !got.fits {
-        return false;
+        return Ok(false);
     }
     let r = got.rec;
-    told(step_alone(&mut given[7..], r, got.first));
-    words(&given[7..]);
-    true
+    told(rt, step_alone(&mut given[7..], r, got.first))?;
+    words(rt, &given[7..])?;
+    Ok(true)
 }

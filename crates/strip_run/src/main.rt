@@ -1,20 +1,37 @@
 // strip-run: reads a schedule file from standard input and prints its listing, or `refused` and the number. It has room for one byte
 // more than the longest file has, so that a longer one is seen to be too long.
-use libc::{STDIN_FILENO, STDOUT_FILENO};
+#![tactic(auto)]
 
-fn main() {
+ghost use Rattle.std.specs.Prelude.{◌≤◌, length, IfOk};
+
+use std::io;
+use std::io::Read;
+
+// Reads until the room is full or the input ends, and answers how many bytes were read.
+fn read_full(input: &mut impl Read, room: &mut [u8]) -> io::Result<usize>
+    ensures { IfOk result (λ n. n ≤ length room.new) }
+{
+    let mut n = 0;
+    while n < room.len() {
+        let got = input.read(&mut room[n..])?;
+        if got == 0 {
+            return Ok(n);
+        }
+        n += got;
+    }
+    Ok(n)
+}
+
+fn main(rt: HostRuntime) -> io::Result<()> {
     let mut file = [0u8; 16395];
     let mut strip = [0u64; 4096];
     let mut out = [0u8; 147489];
-    let read = io::read_full(STDIN_FILENO, &mut file);
+    let read = read_full(&mut rt.stdin(), &mut file)?;
     let got = schedule::list(&file[..read], &mut strip, &mut out);
     let number = got.number;
     let length = got.length;
     if number != 0 {
-        io::write_all(STDOUT_FILENO, b"refused ");
-        io::print_decimal(STDOUT_FILENO, number as u64);
-        io::write_all(STDOUT_FILENO, b"\n");
-        return;
+        return println!(rt; "refused {number}");
     }
-    io::write_all(STDOUT_FILENO, &out[..length]);
+    rt.write_all(&out[..length])
 }
