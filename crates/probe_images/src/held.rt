@@ -1,5 +1,4 @@
-// A table that is held by value, and lent to the two calls on whole images. Whoever lends records is walked by hand: so these two
-// functions do no more than that.
+// A table that is held by value, and lent to the two calls on whole images. These two functions do no more than that.
 ghost use Rattle.std.specs.Prelude.{◌≤◌};
 
 use record::Record;

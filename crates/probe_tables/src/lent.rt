@@ -1,5 +1,4 @@
-// Records that are held by value, and lent to the six calls on lent records. Whoever lends records is walked by hand: so these functions do
-// no more than that.
+// Records that are held by value, and lent to the six calls on lent records. These functions do no more than that.
 ghost use Rattle.std.specs.Prelude.{◌≤◌};
 
 use record::Record;
