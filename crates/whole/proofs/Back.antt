@@ -41,7 +41,10 @@ laid_records_read (r ∷ table) l at fit long =
     let same = length-sets l at (party_bytes 1 r) in
     let this : record_at 1 (sets m (at + 32) (table_bytes 1 table)) at ≡ r =
     same_record 1 (sets m (at + 32) (table_bytes 1 table)) m at (λ i lo hi. below_a_run (table_bytes 1 table) m (at + 32) i hi) ∙ party_read 1 l at r (fit 0 (omega arith)) (omega arith) in
-    rw (first_laid 1 l at r table, this, laid_records_read table m (at + 32) (λ i h. fit (suc i) (omega arith)) (omega arith)) refl
+    let rest = laid_records_read table m (at + 32) (λ i h. fit (suc i) (omega arith)) (omega arith) in
+    ap (λ (b : List ℕ). records_from 1 b at (length (r ∷ table))) (first_laid 1 l at r table)
+    ∙ ap (λ (s : Record). s ∷ records_from 1 (sets m (at + 32) (table_bytes 1 table)) (at + 32) (length table)) this
+    ∙ ap (λ (s : List Record). r ∷ s) rest
 
 laid_spare : (table : List Record) (l : List ℕ) (at i : ℕ) → i < length table → at + 32 * length table ≤ length l
     → number_at 8 (sets l at (table_bytes 1 table)) (at + 32 * i + 24) ≡ 0
