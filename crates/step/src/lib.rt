@@ -1,4 +1,6 @@
 // The step: one access for each call.
+#![tactic(auto)]
+
 ghost use Rattle.std.specs.Prelude.{◌≡◌, ◌<◌};
 ghost use Rattle.step.specs.Step.{strip_fits, hint_fits, step_own, step_refusal, aimed, StepPromise};
 
@@ -26,6 +28,7 @@ fn hint_fits(max: u16, r: Record, hint: u32) -> bool
 }
 
 // The record's own checks, public for the other kinds of memory.
+#[tactic(auto, unfolding(crate::specs::Step::step_own))]
 pub fn step_own(max: u16, r: Record, hint: u32) -> u32
     ensures { result ≡ step_own max r hint }
 {
@@ -41,6 +44,7 @@ pub fn step_own(max: u16, r: Record, hint: u32) -> u32
     0
 }
 
+#[tactic(auto, unfolding(crate::specs::Step::step_refusal))]
 fn step_refusal(words: usize, r: Record, hint: u32) -> u32
     ensures { result ≡ step_refusal words r hint }
 {
@@ -62,6 +66,7 @@ pub fn aim(r: Record, hint: u32) -> Record
 }
 
 // Step: one access to the strip, and what follows it.
+#[tactic(auto, unfolding(crate::specs::Step::step_of, crate::specs::Step::step_leaves))]
 pub fn step(strip: &mut [u64], r: Record, hint: u32) -> Answered
     ensures { StepPromise strip.old r hint result strip.new }
 {
