@@ -1,4 +1,6 @@
 // A call of a party on a strip and a table of records: the checks before the record's own. Public for whatever holds a table.
+#![tactic(auto)]
+
 ghost use Rattle.std.specs.Prelude.{◌≡◌};
 ghost use Rattle.call.specs.Call.{table_fits, gate_of};
 
