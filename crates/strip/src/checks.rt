@@ -4,6 +4,7 @@ ghost use Rattle.strip.specs.Lay.{lay_refusal};
 
 use step::strip_fits;
 
+#[tactic(auto, unfolding(crate::specs::Lay::lay_refusal))]
 pub fn lay_refusal(words: usize, divide: u32) -> u32
     ensures { result ≡ lay_refusal words divide }
 {

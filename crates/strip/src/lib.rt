@@ -1,4 +1,6 @@
 // The strip as a whole: lay a fresh one, measure it.
+#![tactic(auto)]
+
 mod checks;
 mod fresh;
 mod runs;
@@ -13,20 +15,21 @@ use crate::runs::run;
 use step::strip_fits;
 
 // What lay answers: the strip is fresh, or it was not laid, with the number of the refusal.
-#[derive(Drop)]
+#[derive(Clone, Copy)]
 pub enum Laid {
     Fresh,
     NotLaid(u32),
 }
 
 // What measure answers: L, the number of orders and R of a shaped strip, or the number of the refusal.
-#[derive(Drop)]
+#[derive(Clone, Copy)]
 pub enum Measured {
     Shape(u32, u32, u32),
     NotMeasured(u32),
 }
 
 // Lay: LN in 0..divide, RN in the rest, all counters 0.
+#[tactic(auto, unfolding(crate::specs::Lay::laid_of, crate::specs::Lay::lay_leaves))]
 pub fn lay(strip: &mut [u64], divide: u32) -> Laid
     ensures { LayPromise strip.old divide result strip.new }
 {
@@ -39,6 +42,7 @@ pub fn lay(strip: &mut [u64], divide: u32) -> Laid
 }
 
 // Measure: the runs of LN, orders and RN that a shaped strip is made of.
+#[tactic(auto, unfolding(crate::specs::Measure::measure_of))]
 pub fn measure(strip: &[u64]) -> Measured
     ensures { result ≡ measure_of strip.now }
 {
