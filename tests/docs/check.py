@@ -10,7 +10,7 @@ CRATES = {}  # name: the crates of ours that it uses
 for line in Path("crates.txt").read_text().splitlines():
     if line and not line.startswith("#"):
         crate, uses = line.split(":")
-        CRATES[crate] = uses.split()
+        CRATES[crate.split()[0]] = uses.split()
 
 faults = []
 counts = dict.fromkeys(["links", "names", "statements", "calls", "paths", "edits", "crates", "programs", "bytes", "helpers"], 0)
@@ -76,9 +76,9 @@ def check_names():
 
 
 def check_known():
-    """A theorem's sentence, a definition's or a function's name stands somewhere in the sources, linked or not."""
+    """A theorem's sentence, a definition's, a function's or a crate's name stands somewhere in the sources, linked or not."""
     text = "\n".join(path.read_text() for kind in ["*.antt", "*.rt"] for path in Path("crates").rglob(kind))
-    for path in ["include/pds.h", "tools/build-lib", "rust/src/lib.rs", "rust/build.rs"]:
+    for path in ["crates.txt", "include/pds.h", "tools/build-lib", "rust/src/lib.rs", "rust/build.rs"]:
         text += Path(path).read_text()
     edits = {path.stem for path in Path("crates").glob("*/must-fail/*.edit")}
     for page in PAGES:
@@ -96,7 +96,7 @@ def defined_in(proofs):
 def at_hand(proofs):
     """Those of a file and of the files of proofs that it uses."""
     names = defined_in(proofs)
-    for crate, module, imported in re.findall(r"^use Rattle·(\w+)(?:·proofs)?\.proofs\.([\w.+]+)\.\{([^}]*)\}", proofs.read_text(), re.M):
+    for crate, module, imported in re.findall(r"^use Rattle\.(\w+)\.proofs\.([\w.+]+)\.\{([^}]*)\}", proofs.read_text(), re.M):
         used = Path("crates", crate, "proofs", *module.split(".")).with_suffix(".antt")
         names |= defined_in(used) & {name.strip() for name in imported.split(",")} if used.is_file() else set()
     return names
@@ -115,12 +115,17 @@ def statements(text):
 
 
 def check_statements():
-    """What the statement of a theorem that a page names speaks of is defined in specs/, not among proofs. A theorem's name is a sentence."""
+    """What the statement of a theorem that a page names speaks of is defined in specs/, not among proofs. A theorem's name is a sentence,
+    and a page that names a function or a definition of specs/ by the same words means that."""
     named = {name for page in PAGES for _, line in prose(page) for name in NAME.findall(line)}
+    for path in Path("crates").glob("*/src/**/*.rt"):
+        named -= set(re.findall(r"\bfn (\w+)", path.read_text()))
+    for path in Path("crates").glob("*/specs/**/*.antt"):
+        named -= set(re.findall(r"^ *(?:abbrev|unfoldable) pub (\S+)", path.read_text(), re.M))
     for path in sorted(Path("crates").glob("*/proofs/**/*.antt")):
         there = at_hand(path)
         for theorem, said in statements(path.read_text()):
-            if theorem in named and "-" in theorem:
+            if theorem in named and "_" in theorem:
                 among = sorted(name for name in there if occurs(name, said))
                 check("statements", not among, f"{path}: `{theorem}` speaks of {', '.join(among)}, defined among proofs")
 
@@ -230,7 +235,7 @@ def check_bytes():
     """What a definition spells out is what lies in the example, or what the C test expects."""
     for name in ["fight", "withdrawal"]:
         spec = f"crates/marks/specs/{name.title()}.antt"
-        for defined, file in [(name, f"examples/{name}.pdo"), (f"{name}Text", f"examples/{name}.listing")]:
+        for defined, file in [(name, f"examples/{name}.pdo"), (f"{name}_text", f"examples/{name}.listing")]:
             check("bytes", bytes_of(spec, defined, "[]") == Path(file).read_bytes(), f"{spec}: {defined} is not {file}")
     spec, test = "crates/conventions/specs/Spelled.antt", "tests/c/spelled.c"
     check("bytes", bytes_of(spec, "bytes", "[]") == bytes_of(test, "bytes", "}"), f"{test}: other bytes than {spec}")
