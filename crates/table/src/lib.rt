@@ -1,5 +1,7 @@
 // The lent table of records: start, step and withdraw of the numbered party, where its record stands; and of one record that is
 // lent alone. The work is done by functions that take and give the record by value.
+#![tactic(auto)]
+
 ghost use Rattle.std.specs.Prelude.{◌≡◌, ◌+◌};
 ghost use Rattle.party.specs.Calls.{start_of, withdraw_of};
 ghost use Rattle.step.specs.Step.{step_of, step_leaves};
@@ -13,14 +15,14 @@ use party::{Answer, Answered};
 use record::Record;
 
 // What a call says: document 01's number, and the carried order.
-#[derive(Drop)]
+#[derive(Clone, Copy)]
 pub struct Said {
     pub number: u32,
     pub carried: u32,
 }
 
 // What a call by value says, and the record it gives.
-#[derive(Drop)]
+#[derive(Clone, Copy)]
 pub struct Told {
     pub said: Said,
     pub rec: Record,
@@ -66,18 +68,21 @@ fn withdraw_told(max: u32, r: Record) -> Told
 }
 
 // The checks before the record's own. A step's hint and a start's order play no part in them.
+#[tactic(auto, unfolding(call::specs::Call::gate))]
 fn step_gate(words: usize, parties: usize, party: u32) -> u32
     ensures { result ≡ gate words parties (step party 0) }
 {
     gated(words, false, parties, party)
 }
 
+#[tactic(auto, unfolding(call::specs::Call::gate))]
 fn start_gate(max: u32, parties: usize, party: u32, operation: u32) -> u32
     ensures { result ≡ gate (max + 2) parties (start party operation 0) }
 {
     gated(max as usize + 2, 3 < operation, parties, party)
 }
 
+#[tactic(auto, unfolding(call::specs::Call::gate))]
 fn withdraw_gate(max: u32, parties: usize, party: u32) -> u32
     ensures { result ≡ gate (max + 2) parties (withdraw party) }
 {
