@@ -1,4 +1,6 @@
 // Find: the place of a strip where a side works, a hint for its next step.
+#![tactic(auto)]
+
 mod ends;
 
 ghost use Rattle.std.specs.Prelude.{◌≡◌};
@@ -8,7 +10,7 @@ use crate::ends::is_end;
 use step::strip_fits;
 
 // What find answers: the place, which may be 0 on the left, or the number of the refusal.
-#[derive(Drop)]
+#[derive(Clone, Copy)]
 pub enum Found {
     Place(u32),
     NotFound(u32),
