@@ -9,7 +9,6 @@ use lib.Seq.{get_or-set_same}
 use native.Mathlib.Omega.{arith}
 use Rattle.logic.proofs.Lists.{at_set}
 use Rattle.word.specs.Word.{raised_to}
-use Rattle.record.specs.Operation.{wall}
 use Rattle.record.specs.Record.{idle, begun}
 use Rattle.party.specs.Answer.{number_of}
 use Rattle.record.specs.declared.Record.{Record}

@@ -1,5 +1,5 @@
 -- A fresh image: its header is taken, it spells a fresh strip and idle parties, and its bytes that must be zero are.
-use Prim.Native.Nat.{ℕ, zero, ◌+◌, ◌*◌, ◌≤◌, ◌<◌}
+use Prim.Native.Nat.{ℕ, ◌+◌, ◌*◌, ◌≤◌, ◌<◌}
 use mathlib.Core.Path.{◌≡◌, refl, sym, ◌∙◌, ap}
 use mathlib.Core.Bool.{true}
 use mathlib.Core.List.{List, ◌∷◌, ◌++◌}
