@@ -1,4 +1,6 @@
 // An entry of a schedule: its 8 bytes, and what it does to a strip and its party's record.
+#![tactic(auto)]
+
 ghost use Rattle.std.specs.Prelude.{◌≡◌, true, ◌+◌, ◌≤◌, length};
 ghost use Rattle.step.specs.Step.{strip_fits};
 ghost use Rattle.call.specs.Call.{party_of, is_unknown, gate, own_of, own_leaves};
@@ -13,7 +15,7 @@ use record::Record;
 
 // What an entry asks for, the party first: specs/Entry.antt gives the call for each case.
 // One that asks for nothing known is a start of operation 4.
-#[derive(Drop)]
+#[derive(Clone, Copy)]
 pub enum Entry {
     Start(u8, u8, u32),
     Step(u8, u32),
@@ -27,6 +29,7 @@ fn is_known(act: u8, operation: u8, zero: u8, number: u32) -> bool
 }
 
 // The entry from byte `at` on. Public for the schedule, which has checked the file's length.
+#[tactic(auto, unfolding(crate::specs::Entry::call_at))]
 pub fn read(file: &[u8], at: usize) -> Entry
     requires { at + 8 ≤ length file.now }
     ensures { asked_of result ≡ call_at file.now at }
@@ -67,6 +70,7 @@ fn is_unknown(e: Entry) -> bool
 }
 
 // The checks before the record's own.
+#[tactic(auto, unfolding(call::specs::Call::gate))]
 fn gate_of(words: usize, parties: u8, e: Entry) -> u32
     ensures { result ≡ gate words parties (asked_of e) }
 {
@@ -74,6 +78,7 @@ fn gate_of(words: usize, parties: u8, e: Entry) -> u32
 }
 
 // The call on the party's own record.
+#[tactic(auto, using(step::proofs::Cleared::strip_within))]
 fn own(strip: &mut [u64], r: Record, e: Entry) -> Answered
     requires { strip_fits (length strip.old) ≡ true }
     ensures gives { result ≡ own_of strip.old r (asked_of e) }
@@ -88,6 +93,7 @@ fn own(strip: &mut [u64], r: Record, e: Entry) -> Answered
 }
 
 // On record: the entry's call on a strip and the record of its party, one of `parties`.
+#[tactic(auto, using(call::proofs::Called::past_gate), unfolding(crate::specs::OnRecord::on_record_of, crate::specs::OnRecord::on_record_leaves))]
 pub fn on_record(strip: &mut [u64], parties: u8, r: Record, e: Entry) -> Answered
     ensures gives { result ≡ on_record_of strip.old parties r (asked_of e) }
     ensures words { strip.new ≡ on_record_leaves strip.old parties r (asked_of e) }
