@@ -1,4 +1,6 @@
 // One entry of a run: what is told of its answer, and what its party is left with.
+#![tactic(auto)]
+
 ghost use Rattle.std.specs.Prelude.{◌≡◌};
 ghost use Rattle.entry.specs.Entry.{asked_of};
 ghost use Rattle.entry.specs.OnRecord.{on_record_leaves};
@@ -11,7 +13,7 @@ use party::Answered;
 use record::Record;
 
 // What one entry came to: its line, and the record and the last look that its party is left with.
-#[derive(Drop)]
+#[derive(Clone, Copy)]
 pub struct Turn {
     pub number: u32,
     pub carried: u32,
