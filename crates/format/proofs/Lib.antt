@@ -5,3 +5,4 @@ pub mod Spelled
 pub mod Sizes
 pub mod Gated
 pub mod Laying
+pub mod Rights

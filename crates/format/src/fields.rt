@@ -8,6 +8,7 @@ use little::{number_2, number_4, number_8, put_2, put_4, put_8};
 use record::Record;
 
 // The record that its bytes spell. Public for the calls on images, which have checked the length.
+#[tactic(auto, unfolding(crate::specs::Spelling::record_at))]
 pub fn read_record(image: &[u8], at: usize) -> Record
     requires { at + 32 ≤ length image.now }
     ensures { result ≡ record_at (version_at image.now) image.now at }

@@ -38,6 +38,7 @@ fn bad_header(number: u32) -> Header
 }
 
 // The header: too short, then mark and version, then what it says.
+#[tactic(auto, unfolding(crate::specs::Inside::header_of, crate::specs::Format::header_refusal))]
 pub fn read_header(image: &[u8]) -> Header
     ensures { result ≡ header_of image.now }
 {

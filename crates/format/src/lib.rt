@@ -1,5 +1,7 @@
 // The format of an image: its header, where each thing stands, a record in its bytes, a fresh one. All is public for the calls on
 // images, which have checked what these ask.
+#![tactic(auto)]
+
 pub mod fields;
 pub mod fresh;
 pub mod gate;
@@ -8,7 +10,7 @@ pub mod gate;
 pub const WORDS: usize = 8;
 
 // A header: its refusal, 0 for none, and the version, MAX and the party count of one that is taken, else 0.
-#[derive(Drop)]
+#[derive(Clone, Copy)]
 pub struct Header {
     pub number: u32,
     pub version: u16,
@@ -17,7 +19,7 @@ pub struct Header {
 }
 
 // The named party's record: its refusal, 0 for none, and of one that is not refused MAX and where the record stands, else 0.
-#[derive(Drop)]
+#[derive(Clone, Copy)]
 pub struct Named {
     pub number: u32,
     pub max: u16,

@@ -1,4 +1,6 @@
 // What the header of an image and that of a schedule file share.
+#![tactic(auto)]
+
 ghost use Rattle.std.specs.Prelude.{◌≡◌, ◌≤◌, length};
 ghost use Rattle.header.specs.Header.{is_marked, version_at, parties_at, max_at, counts_fit};
 

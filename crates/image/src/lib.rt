@@ -1,4 +1,6 @@
 // The image: four calls on lent bytes.
+#![tactic(auto)]
+
 mod accesses;
 
 ghost use Rattle.call.specs.Call.{Call};

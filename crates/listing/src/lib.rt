@@ -1,4 +1,6 @@
 // The lines of a listing, each into lent bytes. Each answers the place behind what it wrote, and asks that there is room.
+#![tactic(auto)]
+
 ghost use Rattle.std.specs.Prelude.{◌≡◌, ◌++◌, ◌∷◌, []};
 ghost use Rattle.text.specs.Writing.{Room, Puts};
 ghost use Rattle.entry.specs.Entry.{asked_of};

@@ -1,4 +1,6 @@
 // A whole image piece by piece: what reading and writing one do without its table. All are public for the two calls on whole images,
 // which check the lengths first: those that look at bytes ask that they lie inside.
+#![tactic(auto)]
+
 pub mod reading;
 pub mod writing;
