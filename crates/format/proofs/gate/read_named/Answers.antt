@@ -1,4 +1,4 @@
-use Rattle.std.proofs.Common.{◌≡◌, ◌+◌, ◌*◌, ◌<◌, ◌∙◌, ℕ, List, sym, ap, arith}
+use Rattle.std.proofs.Common.{◌≡◌, ◌+◌, ◌*◌, ◌<◌, ◌∙◌, sym, ap, arith}
 use Rattle.header.specs.Header.{version_at, parties_at}
 use Rattle.format.specs.Format.{party_place}
 use Rattle.format.specs.Spelling.{is_spare}
