@@ -1,13 +1,13 @@
 -- What the calls on an image keep: a promise leaves nothing open, a refused call changes no byte, and every number is at most 19.
 use Prim.Native.Nat.{ℕ, ◌≤◌}
 use mathlib.Core.Path.{◌≡◌, refl, sym, ◌∙◌}
-use mathlib.Core.Bool.{true, not, true≢false}
+use mathlib.Core.Bool.{not, true≢false}
 use mathlib.Core.List.{List}
 use lib.ListN.{length}
 use lib.Dec.{eqb, leb}
 use native.Mathlib.Omega.{arith}
 use Rattle.logic.proofs.Bools.{whichever}
-use Rattle.party.specs.Answer.{is_refusal, number_of, carried_of}
+use Rattle.party.specs.Answer.{number_of}
 use Rattle.party.specs.declared.Answer.{Answer}
 use Rattle.party.proofs.Refusals.{Checked, checked_is_small}
 use Rattle.call.specs.Call.{Call}

@@ -1,4 +1,4 @@
-use Rattle.std.proofs.Common.{◌∙◌, sym, arith, rules}
+use Rattle.std.proofs.Common.{◌∙◌, sym, rules}
 use Rattle.little.specs.Bytes.{AreBytes}
 use Rattle.call.specs.Call.{Call}
 use Rattle.image.proofs.Promised.{keeps_stopped, room, Weighed, keeps_step_refused, hint_fits_k, access_room, keeps_look, keeps_swap}

@@ -1,4 +1,4 @@
-use Rattle.std.proofs.Common.{◌∙◌, ap, arith, rules}
+use Rattle.std.proofs.Common.{◌∙◌, ap, rules}
 use Rattle.std.proofs.lemmas.List.Edits.{sets}
 use Rattle.record.specs.declared.Record.{Record}
 use Rattle.little.specs.Bytes.{AreBytes}

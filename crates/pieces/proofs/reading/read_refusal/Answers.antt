@@ -1,8 +1,8 @@
-use Rattle.std.proofs.Common.{◌≡◌, ◌+◌, ◌∙◌, ℕ, Bool, true, ◌&&◌, eqb, sym, ap, arith}
+use Rattle.std.proofs.Common.{◌≡◌, ◌+◌, ◌∙◌, ℕ, ◌&&◌, eqb, sym, ap, arith}
 use Rattle.header.specs.Header.{max_at, parties_at}
 use Rattle.format.proofs.Sizes.{header_sized}
 use Rattle.format.proofs.Gated.{number_said, says}
-use Rattle.pieces.specs.Pieces.{all_below, is_sound, agrees}
+use Rattle.pieces.specs.Pieces.{all_below, is_sound}
 use Rattle.pieces.proofs.Checked.{refused_by_lent, refused_by_header, refused_by_lengths, refused_by_records, refused_by_none}
 use Rattle.pieces.proofs.reading.read_refusal.Goals as goal
 

@@ -1,4 +1,4 @@
-use Rattle.std.proofs.Common.{◌≡◌, ◌∙◌, ℕ, List, length, ap, arith}
+use Rattle.std.proofs.Common.{◌∙◌, ℕ, List, ap, arith}
 use Rattle.std.proofs.Math.ListN.{set}
 use Rattle.little.specs.Bytes.{number_at}
 use Rattle.format.specs.Format.{word_place, words_base}
