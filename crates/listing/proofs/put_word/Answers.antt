@@ -1,0 +1,8 @@
+use Rattle.text.proofs.Puts.{puts_then}
+use Rattle.listing.proofs.put_word.Goals as goal
+
+pub returns : goal.returns
+returns c =
+    let puts-value = rw c.value.ensures at c.put_spaced-dot.ensures in
+    let puts-counter = rw c.counter.ensures at c.put_decimal.ensures in
+    puts_then _ _ puts-value (puts_then _ _ c.put_byte-end.ensures puts-counter)
