@@ -23,6 +23,7 @@ fn sizes_fit(file: &[u8]) -> bool
     counts_fit(max(file) as u32, parties(file) as u32) & length_fits(file.len())
 }
 
+#[tactic(auto, unfolding(crate::specs::File::file_refusal))]
 fn file_refusal(file: &[u8]) -> u32
     ensures { result ≡ file_refusal file.now }
 {
@@ -34,6 +35,7 @@ fn file_refusal(file: &[u8]) -> u32
     pick_u32(!marked, 2, pick_u32(!sizes_fit(file), 1, outside))
 }
 
+#[tactic(auto, unfolding(crate::specs::List::list_refusal))]
 pub fn list_refusal(file: &[u8], words: usize, room: usize) -> u32
     ensures { result ≡ list_refusal file.now words room }
 {

@@ -1,4 +1,6 @@
 // The schedule file, its run and its listing.
+#![tactic(auto)]
+
 mod checks;
 mod entries;
 
@@ -19,7 +21,7 @@ use strip::lay;
 pub const LISTING_BOUND: usize = 147489;
 
 // What list answers: the number, and the length of the listing, 0 with a refusal.
-#[derive(Drop)]
+#[derive(Clone, Copy)]
 pub struct Listed {
     pub number: u32,
     pub length: usize,
