@@ -1,4 +1,6 @@
 // The C boundary: four exported functions, and nothing else. A slice passes as a pointer and a length.
+#![tactic(auto)]
+
 ghost use Rattle.std.specs.Prelude.{◌≡◌};
 ghost use Rattle.call.specs.Call.{Call};
 ghost use Rattle.image.specs.Calls.{lay_of, image_of};
