@@ -1,5 +1,7 @@
 // Whole images: one read into a lent strip and a lent table, and one written from them. All checks come first, so a refusal writes
-// nothing. The loops over the lent table are functions of their own, walked by hand; the work of a turn is done by value, in `pieces`.
+// nothing. The loops over the lent table are functions of their own; the work of a turn is done by value, in `pieces`.
+#![tactic(auto)]
+
 ghost use Rattle.std.specs.Prelude.{◌≡◌, ◌+◌, ◌*◌, ◌≤◌, length};
 ghost use Rattle.std.proofs.lemmas.List.Edits.{sets};
 ghost use Rattle.logic.specs.Pick.{pick};
