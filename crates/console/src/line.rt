@@ -1,5 +1,5 @@
 // A line, and its fields.
-ghost use Rattle.std.specs.Prelude.{◌≤◌, length, IfOk};
+ghost use Rattle.std.specs.Prelude.{◌≡◌, ◌≤◌, length, IfOk};
 
 use std::io;
 use std::io::Read;
@@ -49,10 +49,12 @@ fn read_all(input: &mut impl Read, line: &mut [u8]) -> io::Result<usize> {
 }
 
 // Reads a line, and answers how many bytes it has with its newline: 0 at the end of the input. For a line that the buffer has no place for
-// stands an empty one. Public for the text doors, whose buffer has room.
+// stands an empty one. A read that fails is answered as it came; the buffer then holds what was read before it, and is as long as it was.
+// Public for the text doors, whose buffer has room.
 pub fn read_line(input: &mut impl Read, line: &mut [u8]) -> io::Result<usize>
     requires { 1 ≤ length line.old }
-    ensures { IfOk result (λ n. n ≤ length line.new) }
+    ensures within { IfOk result (λ n. n ≤ length line.new) }
+    ensures kept { length line.new ≡ length line.old }
 {
     let n = read_all(input, line)?;
     if n <= line.len() {
