@@ -112,7 +112,7 @@ fn spell(bytes: &[u8], text: &mut [u8]) -> usize
     2 * i
 }
 
-// The bytes of an image: `-` for none.
+// The bytes of an image: `-` for none. An error is a write's, as in `say`.
 pub fn hex(rt: &impl Print, bytes: &[u8]) -> io::Result<()> {
     rt.write_all(b" ")?;
     if bytes.len() == 0 {

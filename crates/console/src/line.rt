@@ -11,7 +11,7 @@ pub fn line_room() -> [u8; 163840] {
 }
 
 // What a read gives: a byte, or the end of the input.
-#[derive(Drop)]
+#[derive(Clone, Copy)]
 enum Got {
     Byte(u8),
     End,

@@ -29,7 +29,7 @@ pub fn record_of(given: &[u64]) -> Record
 }
 
 // What a command on one record is given first: a number that is compared, and the record; and whether they are there and fit.
-#[derive(Drop)]
+#[derive(Clone, Copy)]
 pub struct Handed {
     pub fits: bool,
     pub first: u32,
@@ -51,6 +51,7 @@ pub fn first_record(given: &[u64]) -> Handed {
     }
 }
 
+// An error is a write's, as in `say`.
 pub fn say_record(rt: &impl Print, r: Record) -> io::Result<()> {
     more(rt, r.operation as u64)?;
     more(rt, r.stage as u64)?;

@@ -1,4 +1,5 @@
-// What is written.
+// What is written. A write that fails is answered as it came, and no other error is: what stood before it is written, and nothing lent is
+// changed.
 use std::io;
 
 pub fn first(rt: &impl Print, n: u64) -> io::Result<()> {

@@ -8,7 +8,7 @@ use std::io;
 
 // Records that were given, one more than a table may have, so that a table that is too long can be shown; and whether they were all there
 // and fit their fields.
-#[derive(Drop)]
+#[derive(Clone, Copy)]
 pub struct Given {
     pub fits: bool,
     pub count: usize,
@@ -51,7 +51,7 @@ pub fn records_of(given: &[u64]) -> Given
     Given { fits, count, table }
 }
 
-// So many records of a table. Public for the text doors, which have counted them.
+// So many records of a table. Public for the text doors, which have counted them. An error is a write's, as in `say`.
 pub fn say_records(rt: &impl Print, table: [Record; 17], count: usize) -> io::Result<()>
     requires { count ≤ 17 }
 {

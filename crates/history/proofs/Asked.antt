@@ -45,7 +45,7 @@ module _ (strip : List ℕ) (parties : ℕ) (call : ℕ → Call) where
           (get_or (leaves (at n) n (call n)).table i idle)
           → (1 ≤ (get_or (at n).table i idle).stage → Began i (get_or (asked n) i nothing_yet)) → Began i (get_or (asked (suc n)) i nothing_yet)
       go (After.idles ended) before = absurd (let stage : 1 ≤ 0 = rw ended at on in omega arith)
-      go (After.begins operation order start begun-is Asked-is) before = rw Asked-is start
+      go (After.begins operation order start begun-is asked-is) before = rw asked-is start
       go (After.carries same operation v busy second) before = rw same (before (busy on))
 
   each_was_asked : (n : ℕ) → Every (WasAsked call) none (gathered added n)

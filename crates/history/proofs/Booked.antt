@@ -74,7 +74,7 @@ module _ (n : ℕ) (s : State) (asked : List Asked) (booked : Booked n s asked) 
       go : (now : Bool) → looks_now s call i ≡ now → Next i → LastLook s n call i
       go true e after = new e (eqb-true i (party_of call) (both (looked s call (number_in s call)) _ e).1) (rw e at is)
       go false e (After.idles ended) = absurd (let at : 2 ≤ 0 = rw ended at on in omega arith)
-      go false e (After.begins operation order start begun-is Asked-is) = absurd (let at : 2 ≤ 1 = rw begun-is at on in omega arith)
+      go false e (After.begins operation order start begun-is asked-is) = absurd (let at : 2 ≤ 1 = rw begun-is at on in omega arith)
       go false e (After.carries same operation v busy second) = old e (rw e at is) (second e on)
 
   asks_next : (i : ℕ) → 1 ≤ (get_or (leaves s n call).table i idle).stage
@@ -83,8 +83,8 @@ module _ (n : ℕ) (s : State) (asked : List Asked) (booked : Booked n s asked) 
     where
       go : Next i → Asks (suc n) (get_or (asked_after asked n call (line_of s n call)) i nothing_yet) (get_or (leaves s n call).table i idle)
       go (After.idles ended) = absurd (let at : 1 ≤ 0 = rw ended at on in omega arith)
-      go (After.begins operation order start begun-is Asked-is) =
-          rw (begun-is, Asked-is) (record { operation = refl; order = refl; past = omega arith })
+      go (After.begins operation order start begun-is asked-is) =
+          rw (begun-is, asked-is) (record { operation = refl; order = refl; past = omega arith })
       go (After.carries same operation v busy second) =
           let before = booked.asked_so i (busy on) in
           rw same
@@ -99,7 +99,7 @@ module _ (n : ℕ) (s : State) (asked : List Asked) (booked : Booked n s asked) 
           → ((get_or (asked_after asked n call (line_of s n call)) i nothing_yet).entry < get_or (leaves s n call).looks i 0)
           × (get_or (leaves s n call).looks i 0 < suc n)
       go (After.idles ended) last = absurd (let at : 2 ≤ 0 = rw ended at on in omega arith)
-      go (After.begins operation order start begun-is Asked-is) last = absurd (let at : 2 ≤ 1 = rw begun-is at on in omega arith)
+      go (After.begins operation order start begun-is asked-is) last = absurd (let at : 2 ≤ 1 = rw begun-is at on in omega arith)
       go (After.carries same operation v busy second) (new now at look) =
           rw (same, look) ((booked.asked_so i (busy (omega arith))).past, omega arith)
       go (After.carries same operation v busy second) (old now look stage) =

@@ -1,4 +1,5 @@
 // Each command: its numbers are handed to the proved call, and what that gives is written. False where they are not what it takes.
+// An error is a write's; what was lent is then as the proved call left it.
 use console::number::{compared, number_at};
 use console::records::{first_record, say_record};
 use console::say::{first, more, words};

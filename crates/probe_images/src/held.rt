@@ -4,7 +4,7 @@ ghost use Rattle.std.specs.Prelude.{◌≤◌};
 use record::Record;
 
 // One record more than a table may have, so that a table that is too long can be shown.
-#[derive(Drop)]
+#[derive(Clone, Copy)]
 pub struct Filled {
     pub number: u32,
     pub table: [Record; 17],

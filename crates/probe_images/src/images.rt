@@ -1,4 +1,5 @@
 // The four calls on an image: what each answers is written, and the bytes it leaves.
+// An error is a write's; what was lent is then as the proved call left it.
 use console::hex::hex;
 use console::number::compared;
 use console::say::first;

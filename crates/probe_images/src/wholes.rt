@@ -1,5 +1,5 @@
 // The two calls on whole images: what each answers is written, and what it leaves of what it was lent. False where the numbers are not what
-// it takes.
+// it takes. An error is a write's; what was lent is then as the proved call left it.
 ghost use Rattle.std.specs.Prelude.{◌≤◌};
 
 use crate::held::{read_into, write_from};

@@ -5,7 +5,7 @@ use record::Record;
 use table::{Said, Told};
 
 // What was said, and the table that was left.
-#[derive(Drop)]
+#[derive(Clone, Copy)]
 pub struct Left {
     pub said: Said,
     pub table: [Record; 17],

@@ -1,5 +1,5 @@
 // The commands on one lent record: its numbers are handed to the proved call, and what that gives is written. False where they are not what
-// it takes.
+// it takes. An error is a write's; what was lent is then as the proved call left it.
 use crate::lent::{start_alone, step_alone, withdraw_alone};
 use console::number::{compared, number_at};
 use console::records::{first_record, say_record};

@@ -1,4 +1,4 @@
-// The commands on a lent table, as those on one record.
+// The commands on a lent table, as those on one record, also where a write fails.
 ghost use Rattle.std.specs.Prelude.{◌≤◌};
 
 use crate::lent::{Left, start_among, step_among, withdraw_among};

@@ -5,6 +5,7 @@
 use record::make::begun_record;
 use std::io;
 
+// An error is a write's; the strip is then as the step left it.
 fn step_on(rt: &impl Print, strip: &mut [u64]) -> io::Result<()> {
     let got = step::step(strip, begun_record(0, 7), 1);
     let answer = got.answer;

@@ -2,14 +2,16 @@
 // more than the longest file has, so that a longer one is seen to be too long.
 #![tactic(auto)]
 
-ghost use Rattle.std.specs.Prelude.{◌≤◌, length, IfOk};
+ghost use Rattle.std.specs.Prelude.{◌≡◌, ◌≤◌, length, IfOk};
 
 use std::io;
 use std::io::Read;
 
-// Reads until the room is full or the input ends, and answers how many bytes were read.
+// Reads until the room is full or the input ends, and answers how many bytes were read. A read that fails is answered as it came, and the
+// room then holds what was read before it.
 fn read_full(input: &mut impl Read, room: &mut [u8]) -> io::Result<usize>
-    ensures { IfOk result (λ n. n ≤ length room.new) }
+    ensures within { IfOk result (λ n. n ≤ length room.new) }
+    ensures kept { length room.new ≡ length room.old }
 {
     let mut n = 0;
     while n < room.len() {

@@ -1,4 +1,5 @@
--- Steps that walks by hand share: code that holds references to plain structs (their fields own only facts, as a record's do), and
+-- Steps that walks by hand shared, with the older kit; today's makes such walks itself. The walks that are named here as crates/NAME/proofs/F
+-- stood in files Proof.antt, at the first commit that docs/PORT.md names. They were of code that holds references to plain structs (their fields own only facts, as a record's do), and
 -- calls covered functions. A step's T, L and plainness are the generated `X.the_type`, `X.Laws.the_laws` and `X.Laws.the_plain`.
 --
 -- How a walk goes, with the steps in their order (crates/table/proofs/step_in is one with all of it, withdraw_record the shortest):
