@@ -32,7 +32,7 @@ gate_checked words parties call =
 
 -- The gate passes: the strip fits, and the party is below the count.
 pub record PastGate (words parties : ℕ) (call : Call) : Type 0 where
-  pub strip_fits_lem : strip_fits words ≡ true
+  pub strip_fits : strip_fits words ≡ true
   pub party_known : party_of call < parties
 
 pub past_gate : (words parties : ℕ) (call : Call) → gate words parties call ≡ 0 → PastGate words parties call
@@ -42,7 +42,7 @@ past_gate words parties call none =
     let past11 = passed (is_unknown call) 10 _ past1.1 in
     let past3 = passed (leb parties (party_of call)) 2 0 past11.1 in
     record {
-      strip_fits_lem = (both _ _ (not-false (strip_fits words && table_fits parties) past1.0)).0;
+      strip_fits = (both _ _ (not-false (strip_fits words && table_fits parties) past1.0)).0;
       party_known = leb-false parties (party_of call) past3.0;
     }
 

@@ -118,15 +118,15 @@ laid_record_bytes version l at r fits are =
     (bytes_stay (bytes_of 8 r.first) (laid8 l at r) (at + 8)
     (bytes_stay (bytes_of 4 r.v) (laid4 l at r) (at + 4)
     (bytes_stay (bytes_of 2 r.k) (laid2 l at r) (at + 2)
-    (byte_stays (set l at r.operation) (at + 1) r.stage (byte_stays l at r.operation are fits.operation_fits_lem) fits.stage_fits_lem)
+    (byte_stays (set l at r.operation) (at + 1) r.stage (byte_stays l at r.operation are fits.operation_fits) fits.stage_fits)
     (digits_are_bytes 2 r.k)) (digits_are_bytes 4 r.v)) (digits_are_bytes 8 r.first)) (digits_are_bytes 8 r.second))
 
 pub read_record_fits : (version : ℕ) (l : List ℕ) (at : ℕ) → AreBytes l → RecordFits (record_at version l at)
 unfolding record_at
 read_record_fits version l at are =
     record {
-      operation_fits_lem = are at;
-      stage_fits_lem = are (at + 1);
+      operation_fits = are at;
+      stage_fits = are (at + 1);
       k_fits = number_fits 2 l (at + 2) are;
       v_fits = number_fits 4 l (at + 4) are;
       first_fits = number_fits 8 l (at + 8) are;

@@ -24,7 +24,7 @@ header_checked image =
     (whichever Checked (not (sizes_fit (version_at image) (length image) (max_at image) (parties_at image))) (Checked.some refl) (Checked.none refl)))
 
 pub record Sized (version bytes max parties : ℕ) : Type 0 where
-  pub max_fits_lem : max_fits max ≡ true
+  pub max_fits : max_fits max ≡ true
   pub parties_fit : table_fits parties ≡ true
   pub exact : bytes ≡ length_of version max parties
 
@@ -32,7 +32,7 @@ pub sized : (version bytes max parties : ℕ) → sizes_fit version bytes max pa
 sized version bytes max parties e =
     let last = both (counts_fit max parties) (eqb bytes (length_of version max parties)) e in
     let first = both (max_fits max) (table_fits parties) last.0 in
-    record { max_fits_lem = first.0; parties_fit = first.1; exact = eqb-true bytes (length_of version max parties) last.1 }
+    record { max_fits = first.0; parties_fit = first.1; exact = eqb-true bytes (length_of version max parties) last.1 }
 
 -- the mark, and the one version that is known
 pub header_marked : (image : List ℕ) → header_refusal image ≡ 0 → (is_marked 83 image ≡ true) × (version_at image ≡ 1)

@@ -27,8 +27,8 @@ record_at version image at =
 
 -- each field is as wide as in the image
 pub record RecordFits (r : Record) : Type 0 where
-  pub operation_fits_lem : r.operation < 256
-  pub stage_fits_lem : r.stage < 256
+  pub operation_fits : r.operation < 256
+  pub stage_fits : r.stage < 256
   pub k_fits : r.k < 65536
   pub v_fits : r.v < 4294967296
   pub first_fits : r.first < 18446744073709551616

@@ -30,31 +30,31 @@ use Rattle.history.proofs.Keeping.{Keeps, the_strip_keeps_going}
 use Rattle.history.proofs.Counters.{the_strip_stays_as_long, no_counter_ever_comes_round}
 use Rattle.history.proofs.Accounts.{from_fresh_each_account_is_closed}
 
-module _ (strip : List ℕ) (p : Plain) (parties : ℕ) (calls : List Call) (strip_fits_lem : strip_fits (length strip) ≡ true)
+module _ (strip : List ℕ) (p : Plain) (parties : ℕ) (calls : List Call) (length_fits : strip_fits (length strip) ≡ true)
     (stands : StandsFor strip p) (fitting : Every Fitting no_call calls) where
   -- Every schedule is explained: the finished operations, played on p in the order of their effects, give every answer, and end at
   -- the plain strip that the words stand for at the end.
   pub every_schedule_is_explained :
       ExplainedRun p parties calls (lines_from (begin strip parties) 0 calls) (end_from (begin strip parties) 0 calls).strip
   every_schedule_is_explained =
-      machine_explains Keeps the_strip_keeps_going strip p parties calls strip_fits_lem stands fitting
+      machine_explains Keeps the_strip_keeps_going strip p parties calls length_fits stands fitting
 
   -- What measure then says are that plain strip's numbers.
   pub the_end_is_measured : (q : Plain) → StandsFor (end_from (begin strip parties) 0 calls).strip q
       → measure_of (end_from (begin strip parties) 0 calls).strip ≡ Shape q.left (length q.orders) q.right
   the_end_is_measured q stands-at-end =
       measure_gives_the_plain_strip (end_from (begin strip parties) 0 calls).strip q
-      (rw (the_strip_stays_as_long (begin strip parties) 0 calls) strip_fits_lem) stands-at-end
+      (rw (the_strip_stays_as_long (begin strip parties) 0 calls) length_fits) stands-at-end
 
   pub the_strip_is_shaped_after_every_entry : (n : ℕ) → Shaped (end_from (begin strip parties) 0 (take n calls)).strip
   the_strip_is_shaped_after_every_entry n =
       let upto =
-      machine_explains Keeps the_strip_keeps_going strip p parties (take n calls) strip_fits_lem stands (every_take Fitting no_call n calls fitting) in
+      machine_explains Keeps the_strip_keeps_going strip p parties (take n calls) length_fits stands (every_take Fitting no_call n calls fitting) in
       (upto.0, upto.1)
 
   pub no_counter_comes_round_in_a_schedule : Every IsWord 0 strip → Every IsWord 0 (end_from (begin strip parties) 0 calls).strip
   no_counter_comes_round_in_a_schedule words =
-      no_counter_ever_comes_round (begin strip parties) 0 calls strip_fits_lem (idle_is_sane strip parties) fitting words
+      no_counter_ever_comes_round (begin strip parties) 0 calls length_fits (idle_is_sane strip parties) fitting words
 
 -- A fresh strip with divide d is an instance, with a fresh plain strip of the same divide.
 module _ (max divide parties : ℕ) (calls : List Call) (some : 1 ≤ max) (small : max ≤ 4094) (inside : divide ≤ max)

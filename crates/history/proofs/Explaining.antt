@@ -55,7 +55,7 @@ module _ (strip : List ℕ) (parties : ℕ) (call : ℕ → Call) where
       (gathered (added_at first call unasked) n) (claimed_at n)
 
 module _ (Inv : State → Plain → (ℕ → Plain) → Type 0) (machine : Machine Inv) (strip : List ℕ) (p : Plain) (parties : ℕ)
-    (strip_fits_lem : strip_fits (length strip) ≡ true) (stands : StandsFor strip p)
+    (length_fits : strip_fits (length strip) ≡ true) (stands : StandsFor strip p)
     (call : ℕ → Call) (fitting : (n : ℕ) → Fitting (call n)) where
   abbrev Known : State → Type 0
   Known s = (q : Plain) × (thens : ℕ → Plain) × Inv s q thens
@@ -66,7 +66,7 @@ module _ (Inv : State → Plain → (ℕ → Plain) → Type 0) (machine : Machi
   -- the plain strip before entry n and at each party's last look, by what the machine says entry by entry
   pub known : (n : ℕ) → Known (at n)
   unfolding state_at
-  known zero = (p, λ i. p, machine.begins strip p parties strip_fits_lem stands)
+  known zero = (p, λ i. p, machine.begins strip p parties length_fits stands)
   known (suc n) =
       let k = known n in
       let goes = machine.goes (at n) k.0 k.1 k.2 (call n) (fitting n) in
@@ -135,12 +135,12 @@ pub machine_explains : (Inv : State → Plain → (ℕ → Plain) → Type 0) �
     → (strip : List ℕ) (p : Plain) (parties : ℕ) (calls : List Call) → strip_fits (length strip) ≡ true → StandsFor strip p
     → Every Fitting no_call calls
     → ExplainedRun p parties calls (lines_from (begin strip parties) 0 calls) (end_from (begin strip parties) 0 calls).strip
-machine_explains Inv machine strip p parties calls strip_fits_lem stands fitting =
+machine_explains Inv machine strip p parties calls length_fits stands fitting =
     let fits = every_fits calls fitting in
     let n = length calls in (
-      (known Inv machine strip p parties strip_fits_lem stands (call_in calls) fits n).0,
+      (known Inv machine strip p parties length_fits stands (call_in calls) fits n).0,
       rw (run_ends_at strip parties calls)
-          (stands_at Inv machine strip p parties strip_fits_lem stands (call_in calls) fits n),
+          (stands_at Inv machine strip p parties length_fits stands (call_in calls) fits n),
       rw (run_finishes strip parties calls)
-          (explained_at Inv machine strip p parties strip_fits_lem stands (call_in calls) fits n),
+          (explained_at Inv machine strip p parties length_fits stands (call_in calls) fits n),
     )

@@ -88,9 +88,9 @@ module _ (s : State) (p : Plain) (thens : ℕ → Plain) (keeps : Keeps s p then
 pub the_strip_keeps_going : Machine Keeps
 the_strip_keeps_going =
     record {
-      begins = λ strip p parties strip_fits_lem stands.
+      begins = λ strip p parties length_fits stands.
           record {
-            fits = strip_fits_lem;
+            fits = length_fits;
             sane = idle_is_sane strip parties;
             stands = stands;
             remembers = λ i within. rw (all_the_same parties i idle) (idle_remembers strip p);

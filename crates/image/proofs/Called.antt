@@ -44,7 +44,7 @@ gate_is : (image : List ℕ) (call : Call) → header_refusal image ≡ 0
 unfolding gate
 gate_is image call taken =
     let right = header_sized image taken in
-    rw (strip_fits_lem (max_at image) (max_within (max_at image) right.max_fits_lem), right.parties_fit) refl
+    rw (strip_fits_lem (max_at image) (max_within (max_at image) right.max_fits), right.parties_fit) refl
 
 module _ (image : List ℕ) (call : Call) (are : AreBytes image) where
   abbrev went : Done

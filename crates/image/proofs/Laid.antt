@@ -22,7 +22,7 @@ use Rattle.format.proofs.Laying.{fresh_laid}
 
 pub record Layable (bytes max parties divide : ℕ) : Type 0 where
   pub exact : bytes ≡ length_of 1 max parties
-  pub counts_fit_lem : counts_fit max parties ≡ true
+  pub counts_fit : counts_fit max parties ≡ true
   pub max_small : max ≤ 4094
   pub parties_few : parties ≤ 16
   pub divided : divide ≤ max
@@ -35,8 +35,8 @@ layable bytes max parties divide e =
     let fits = sized 1 bytes max parties (not-false _ past1.0) in
     record {
       exact = fits.exact;
-      counts_fit_lem = (both (counts_fit max parties) (eqb bytes (length_of 1 max parties)) (not-false _ past1.0)).0;
-      max_small = (max_within max fits.max_fits_lem).1;
+      counts_fit = (both (counts_fit max parties) (eqb bytes (length_of 1 max parties)) (not-false _ past1.0)).0;
+      max_small = (max_within max fits.max_fits).1;
       parties_few = leb-true parties 16 (both (leb 1 parties) (leb parties 16) fits.parties_fit).1;
       divided = leb-true divide max (not-false _ past8.0);
     }

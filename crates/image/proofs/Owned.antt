@@ -51,7 +51,7 @@ module _ (image : List ℕ) (party operation order : ℕ) (are : AreBytes image)
   unfolding start_refusal
   start_own_is =
       let fits = named_fits image (ltb 3 operation) party clear in
-      rw (max_of_lem image, fits.sized_right.max_fits_lem, fits.known) refl
+      rw (max_of_lem image, fits.sized_right.max_fits, fits.known) refl
 
   pub start_refused : (start_own (max_at image) (record_in image starting) operation order ≡ 0 → ⊥)
       → image_of image starting ≡ unchanged (start_own (max_at image) (record_in image starting) operation order) image
@@ -72,7 +72,7 @@ module _ (image : List ℕ) (party : ℕ) (are : AreBytes image) (clear : named_
   withdraw_own_is : withdraw_refusal (max_of (length (strip_of image))) (record_in image withdrawing)
       ≡ withdraw_own (max_at image) (record_in image withdrawing)
   unfolding withdraw_refusal
-  withdraw_own_is = rw (max_of_lem image, (named_fits image false party clear).sized_right.max_fits_lem) refl
+  withdraw_own_is = rw (max_of_lem image, (named_fits image false party clear).sized_right.max_fits) refl
 
   pub withdraw_refused : (withdraw_own (max_at image) (record_in image withdrawing) ≡ 0 → ⊥)
       → image_of image withdrawing ≡ unchanged (withdraw_own (max_at image) (record_in image withdrawing)) image
@@ -105,7 +105,7 @@ module _ (image : List ℕ) (party hint : ℕ) (are : AreBytes image) (clear : n
   unfolding step_refusal
   step_own_is =
       let fits = named_fits image false party clear in
-      rw (max_of_lem image, strip_length image, strip_fits_lem (max_at image) (max_within (max_at image) fits.sized_right.max_fits_lem)) refl
+      rw (max_of_lem image, strip_length image, strip_fits_lem (max_at image) (max_within (max_at image) fits.sized_right.max_fits)) refl
 
   pub step_refused : (step_own (max_at image) before hint ≡ 0 → ⊥)
       → image_of image stepping ≡ unchanged (step_own (max_at image) before hint) image

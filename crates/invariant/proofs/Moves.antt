@@ -28,7 +28,7 @@ module _ (strip : List ℕ) where
   early_sound r valid fits early fresh =
       record {
         valid = valid;
-        order_fits_lem = fits;
+        order_fits = fits;
         first_known = λ s. Remembered.fresh (fresh s);
         second_known = λ s. absurd (omega arith);
         first_not_own = λ s. absurd (omega arith);
@@ -49,7 +49,7 @@ module _ (strip : List ℕ) where
     judged_sound stage at right late early near valid =
         record {
           valid = valid;
-          order_fits_lem = sound.order_fits_lem;
+          order_fits = sound.order_fits;
           first_known = λ s. sound.first_known (omega arith);
           second_known = λ s. Remembered.fresh refl;
           first_not_own = λ s. right.first_other;
@@ -68,7 +68,7 @@ module _ (strip : List ℕ) where
     later_sound stage late valid not-far behind ahead =
         record {
           valid = valid;
-          order_fits_lem = sound.order_fits_lem;
+          order_fits = sound.order_fits;
           first_known = λ s. sound.first_known (omega arith);
           second_known = λ s. sound.second_known late;
           first_not_own = λ s. sound.first_not_own late;

@@ -47,7 +47,7 @@ module _ {strip : List ℕ} {place from : ℕ} (w : Wins strip place from) (to :
   stays_sound fits {r} sound spares =
       record {
         valid = ap (λ (n : ℕ). valid_of (max_of n) r) (length-set strip place (raised_to from to)) ∙ sound.valid;
-        order_fits_lem = sound.order_fits_lem;
+        order_fits = sound.order_fits;
         first_known = λ s. remembered_kept w to r.first (near r) (sound.first_known s);
         second_known = λ s. remembered_kept w to r.second r.k (sound.second_known s);
         first_not_own = sound.first_not_own;

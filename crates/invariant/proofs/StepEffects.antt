@@ -78,7 +78,7 @@ module _ (strip : List ℕ) (r : Record) (hint : ℕ) (p : Plain) (fits : strip_
       let end = at_the_end strip p r fits stands (in_range_lem s) mine (sound.push_behind s push took) in
       let some = room_off_wall strip p r fits stands end (off_wall s push) in
       let order = order_is (max_of (length strip)) r sound.valid (omega arith) push in
-      let value = raised_value r.second r.v sound.order_fits_lem in
+      let value = raised_value r.second r.v sound.order_fits in
       StepEffect.acts Pushed (answer_is gone) (inl refl) (added r.operation r.v p) (yields_pushed r.operation r.v p push some)
       (rw gone.words (pushed_stands strip p r stands end _ value order some))
 

@@ -42,11 +42,11 @@ module _ (strip : List ℕ) (table : List Record) (party hint : ℕ) (fits : str
   quiet gone now early = gone_sane gone (set_early_sane sane party now early)
 
   again_sound : valid_of (max_of (length strip)) (again r) ≡ true → Sound strip (again r)
-  again_sound valid = early_sound strip (again r) valid sound.order_fits_lem (omega arith) (λ s. absurd (omega arith))
+  again_sound valid = early_sound strip (again r) valid sound.order_fits (omega arith) (λ s. absurd (omega arith))
 
   pub step_sane : GoneOn strip r hint → Sane (step_leaves strip r hint) (set table party (step_of strip r hint).rec)
   step_sane (GoneOn.remembers s gone) =
-      quiet gone (early_sound strip _ (gone_valid gone) sound.order_fits_lem (omega arith) (λ s. refl)) (omega arith)
+      quiet gone (early_sound strip _ (gone_valid gone) sound.order_fits (omega arith) (λ s. refl)) (omega arith)
   step_sane (GoneOn.drops s d gone) = quiet gone (again_sound (gone_valid gone)) (omega arith)
   step_sane (GoneOn.fills s d w gone) = quiet gone (idle_sound strip) (omega arith)
   step_sane (GoneOn.doubts s d f gone) =

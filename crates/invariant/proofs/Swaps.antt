@@ -81,7 +81,7 @@ module _ (strip : List ℕ) (table : List Record) (party : ℕ) (fits : strip_fi
   pub push_5_sane : r.stage ≡ 5 → is_push r.operation ≡ true → Took (at_place strip r) r.second
       → Sane (set strip r.k (raised_to r.second r.v)) (set table party idle)
   push_5_sane s push took =
-      fifth_sane (wins_at_place (at (omega arith)) took) r.v sound.order_fits_lem
+      fifth_sane (wins_at_place (at (omega arith)) took) r.v sound.order_fits
       (λ i listed.
       record {
         push = λ s' p fresh at is-own. omega (arith, order, own_is_null (of i));

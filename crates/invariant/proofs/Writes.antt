@@ -32,7 +32,7 @@ pub step_writes : (strip : List ℕ) (r : Record) (hint : ℕ) → Steppable (le
 step_writes strip r hint clear = go
   where
     at : 2 ≤ r.stage → Placed (length strip) r
-    at = placed (length strip) r clear.strip_fits_lem clear.valid
+    at = placed (length strip) r clear.strip_fits clear.valid
 
     go : GoneOn strip r hint → Written strip r.v (step_leaves strip r hint)
     go (GoneOn.remembers s gone) = Written.nothing gone.words
@@ -91,4 +91,4 @@ module _ (strip : List ℕ) (table : List Record) (call : Call) where
       go (Called.withdraws party is known left) = rw left.strip_is words
       go (Called.steps party hint is known clear on left) =
           rw left.strip_is
-          (written_words (sane.sound party known).order_fits_lem words (step_writes strip (get_or table party idle) hint clear on))
+          (written_words (sane.sound party known).order_fits words (step_writes strip (get_or table party idle) hint clear on))

@@ -22,7 +22,7 @@ FreshSecond strip r = Fresh strip r.k r.second
 -- one record on its strip
 pub record Sound (strip : List ℕ) (r : Record) : Type 0 where
   pub valid : valid_of (max_of (length strip)) r ≡ true
-  pub order_fits_lem : r.v < 4294967296
+  pub order_fits : r.v < 4294967296
   pub first_known : 2 ≤ r.stage → Known strip (near r) r.first
   pub second_known : 3 ≤ r.stage → Known strip r.k r.second
   pub first_not_own : 3 ≤ r.stage → value_of r.first ≡ own r → ⊥

@@ -62,9 +62,9 @@ lines_length (call ∷ calls) (line ∷ lines) entry narrow bounded fits =
 pub no_listing_is_longer : (max divide parties : ℕ) (calls : List Call) → max ≤ 4094 → divide ≤ max → parties ≤ 16 → length calls ≤ 2048
     → Every Narrow no_call calls → length (listing_text max divide parties calls) ≤ listing_bound
 unfolding listing_text
-no_listing_is_longer max divide parties calls max_fits_lem inside parties_fit few narrow =
+no_listing_is_longer max divide parties calls max_fits inside parties_fit few narrow =
     let first = first_state max divide parties in
-    let header = header_length max divide parties max_fits_lem (omega arith) parties_fit in
+    let header = header_length max divide parties max_fits (omega arith) parties_fit in
     let bounded = lines_are_bounded (fresh_strip max divide) parties calls few in
     let run = lines_length calls (lines_from first 0 calls) 0 narrow bounded (omega arith) in
     let long = the_strip_stays_as_long first 0 calls in

@@ -185,24 +185,24 @@ module _ (strip : List ℕ) (hint : ℕ) (r : Record) where
   push_access below =
       by_stage (λ (stage : ℕ). Steppable (length strip) (push stage) hint → AccessMirrors strip (push stage) hint)
       (λ clear. absurd (true≢false clear.busy))
-      (λ clear. push_1 (within hint clear.strip_fits_lem clear.aimed_fits))
-      (λ clear. push_2 (within r.k clear.strip_fits_lem clear.aimed_fits))
+      (λ clear. push_1 (within hint clear.strip_fits clear.aimed_fits))
+      (λ clear. push_2 (within r.k clear.strip_fits clear.aimed_fits))
       (λ clear. let fits = (stage_3_fits max (push 3) clear.valid refl).1 in absurd (true≢false (sym (both (place_fits max (push 3)) false fits).1)))
-      (λ clear. push_4 (within r.k clear.strip_fits_lem clear.aimed_fits))
+      (λ clear. push_4 (within r.k clear.strip_fits clear.aimed_fits))
       (λ clear.
       let order = leb-true 3 r.v (stage_5_fits max (push 5) clear.valid refl).0 in
-      push_5 (within r.k clear.strip_fits_lem clear.aimed_fits) order below)
+      push_5 (within r.k clear.strip_fits clear.aimed_fits) order below)
       (λ stage past clear. absurd (true≢false (sym clear.valid ∙ past_is_invalid max (push stage) past)))
 
   pop_access : (stage : ℕ) → Steppable (length strip) (pop stage) hint → AccessMirrors strip (pop stage) hint
   pop_access =
       by_stage (λ (stage : ℕ). Steppable (length strip) (pop stage) hint → AccessMirrors strip (pop stage) hint)
       (λ clear. absurd (true≢false clear.busy))
-      (λ clear. pop_1 (within hint clear.strip_fits_lem clear.aimed_fits))
-      (λ clear. pop_2 (within r.k clear.strip_fits_lem clear.aimed_fits))
-      (λ clear. pop_3 (within r.k clear.strip_fits_lem clear.aimed_fits))
-      (λ clear. pop_4 (within r.k clear.strip_fits_lem clear.aimed_fits))
-      (λ clear. pop_5 (within r.k clear.strip_fits_lem clear.aimed_fits))
+      (λ clear. pop_1 (within hint clear.strip_fits clear.aimed_fits))
+      (λ clear. pop_2 (within r.k clear.strip_fits clear.aimed_fits))
+      (λ clear. pop_3 (within r.k clear.strip_fits clear.aimed_fits))
+      (λ clear. pop_4 (within r.k clear.strip_fits clear.aimed_fits))
+      (λ clear. pop_5 (within r.k clear.strip_fits clear.aimed_fits))
       (λ stage past clear. absurd (true≢false (sym clear.valid ∙ past_is_invalid max (pop stage) past)))
 
   push_mirrors : r.v < 4294967296 → (stage : ℕ) → StepMirrors strip (push stage) hint

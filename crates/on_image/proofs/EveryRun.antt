@@ -69,7 +69,7 @@ module _ (image : List ℕ) (p : Plain) (parties : ℕ) (begins : Begins image p
       (idle_parties_are_spelled image p parties begins)
 
   words_fit : strip_fits (length (strip_of image)) ≡ true
-  words_fit = rw (strip_length image) (strip_fits_lem (max_at image) (max_within (max_at image) (header_sized image begins.taken).max_fits_lem))
+  words_fit = rw (strip_length image) (strip_fits_lem (max_at image) (max_within (max_at image) (header_sized image begins.taken).max_fits))
 
   -- Every run on an image is explained: it is the run of the strip and the idle parties that the image spells, and the bytes at the end
   -- spell a strip that stands for the plain strip at the end.

@@ -26,7 +26,7 @@ module _ (bytes : List ℕ) (max parties divide : ℕ) where
   unfolding lay_of
   what_lay_leaves_begins none =
       let fits = layable (length bytes) max parties divide none in
-      rw none (a_fresh_image_begins 1 max parties divide refl fits.counts_fit_lem fits.divided)
+      rw none (a_fresh_image_begins 1 max parties divide refl fits.counts_fit fits.divided)
 
   -- It has a header that is taken and zeros where they must be, and spells the fresh strip and idle parties.
   pub what_lay_leaves_spells_a_fresh_strip : number ≡ 0 →
@@ -35,7 +35,7 @@ module _ (bytes : List ℕ) (max parties divide : ℕ) where
   unfolding lay_of
   what_lay_leaves_spells_a_fresh_strip none =
       let fits = layable (length bytes) max parties divide none in
-      rw none (a_fresh_image_spells_a_fresh_strip 1 max parties divide refl fits.counts_fit_lem fits.divided)
+      rw none (a_fresh_image_spells_a_fresh_strip 1 max parties divide refl fits.counts_fit fits.divided)
 
   -- an answer 0 is no refusal
   not_refused : (image : List ℕ) → PackedPromise (lay_of bytes max parties divide) 0 image → number ≡ 0

@@ -16,7 +16,7 @@ max_within max e =
     (leb-true 1 max each.0, leb-true max 4094 each.1)
 
 pub record Startable (max : ℕ) (r : Record) (operation order : ℕ) : Type 0 where
-  pub max_fits_lem : max_fits max ≡ true
+  pub max_fits : max_fits max ≡ true
   pub known : operation ≤ 3
   pub valid : valid_of max r ≡ true
   pub idle : is_idle r ≡ true
@@ -32,7 +32,7 @@ startable max r operation order e =
     let past5 = passed (not (is_idle r)) 4 _ past4.1 in
     let past7 = passed (not (order_fits operation order)) 6 0 past5.1 in
     record {
-      max_fits_lem = not-false _ past1.0;
+      max_fits = not-false _ past1.0;
       known = ltb-false _ _ past11.0;
       valid = not-false _ past4.0;
       idle = not-false _ past5.0;

@@ -1,4 +1,4 @@
--- What the walks of lent.rt give back: what was said, with the record or with the table that came home.
+-- What the walks of lent.rt gave back with the older kit: what was said, with the record or with the table that came home.
 use mathlib.Core.Path.{refl}
 use mathlib.Core.List.{List, [], ◌∷◌}
 use lib.Dec.{T as Holds}

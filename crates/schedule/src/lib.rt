@@ -27,6 +27,7 @@ pub struct Listed {
     pub length: usize,
 }
 
+#[tactic(auto, using(crate::proofs::Files::listable))]
 fn run_and_tell(file: &[u8], strip: &mut [u64], out: &mut [u8]) -> usize
     requires { (file_refusal file.now ≡ 0) × (length strip.old ≡ max_at file.now + 2) × (listing_bound ≤ length out.old) }
     ensures lines { Puts (listing_of file.now) out.old 0 result out.new }

@@ -22,7 +22,7 @@ strip_within words e =
     (leb-true 3 words each.0, leb-true words 4096 each.1)
 
 pub record Steppable (words : ℕ) (r : Record) (hint : ℕ) : Type 0 where
-  pub strip_fits_lem : strip_fits words ≡ true
+  pub strip_fits : strip_fits words ≡ true
   pub valid : valid_of (max_of words) r ≡ true
   pub busy : is_idle r ≡ false
   pub aimed_fits : place_fits (max_of words) (aimed r hint) ≡ true
@@ -47,7 +47,7 @@ steppable words r hint e =
     let past8 = passed (not (hint_fits max r hint)) 7 0 past6.1 in
     let valid = not-false (valid_of max r) past4.0 in
     record {
-      strip_fits_lem = not-false (strip_fits words) past1.0;
+      strip_fits = not-false (strip_fits words) past1.0;
       valid = valid;
       busy = past6.0;
       aimed_fits = aims max r hint past6.0 (valid_at max r valid) (not-false (hint_fits max r hint) past8.0);
@@ -77,13 +77,13 @@ place_is P r at-k at-near =
 pub place_inside : (words : ℕ) (r : Record) (hint : ℕ) → Steppable words r hint
     → place_of (access_of (aimed r hint)) < words
 place_inside words r hint clear =
-    let within = strip_within words clear.strip_fits_lem in
+    let within = strip_within words clear.strip_fits in
     let at = inside (max_of words) r.operation (aimed r hint).k clear.aimed_fits in
     place_is (λ (place : ℕ). place < words) (aimed r hint) (omega (arith, within, at)) (omega (arith, within, at))
 
 -- a hint that stage 1 takes fits k
 pub hint_fits_k : (words : ℕ) (r : Record) (hint : ℕ) → Steppable words r hint → r.stage ≡ 1 → hint < 65536
 hint_fits_k words r hint clear s =
-    let within = strip_within words clear.strip_fits_lem in
+    let within = strip_within words clear.strip_fits in
     let at = inside (max_of words) r.operation hint (rw s at clear.aimed_fits) in
     omega (arith, within, at)

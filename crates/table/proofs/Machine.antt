@@ -1,4 +1,4 @@
--- The machine values of records and answers, which the walks of this crate store, and what is known of them.
+-- The machine values of records and answers, which the walks of this crate stored with the older kit, and what is known of them.
 use Prim.Native.Nat.{ℕ, ◌<◌, ◌^◌}
 use mathlib.Core.Path.{refl}
 use mathlib.Core.List.{[], ◌∷◌}

@@ -9,12 +9,12 @@ use Rattle.step.proofs.step.Goals as goal
 pub overflow_sub-max : goal.overflow_sub-max
 overflow_sub-max c =
     let passes : step_refusal (length c.args.strip.now) c.args.r c.args.hint ≡ 0 = cc in
-    omega (arith, strip_within (length c.args.strip.now) (steppable _ _ _ passes).strip_fits_lem)
+    omega (arith, strip_within (length c.args.strip.now) (steppable _ _ _ passes).strip_fits)
 
 pub overflow_cast-max : goal.overflow_cast-max
 overflow_cast-max c =
     let passes : step_refusal (length c.args.strip.now) c.args.r c.args.hint ≡ 0 = cc in
-    omega (arith, strip_within (length c.args.strip.now) (steppable _ _ _ passes).strip_fits_lem)
+    omega (arith, strip_within (length c.args.strip.now) (steppable _ _ _ passes).strip_fits)
 
 pub aim-at-requires : goal.aim-at-requires
 aim-at-requires c =

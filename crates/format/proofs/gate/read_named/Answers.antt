@@ -6,6 +6,21 @@ use Rattle.format.specs.Inside.{not_named}
 use Rattle.format.proofs.Sizes.{header_sized}
 use Rattle.format.proofs.Gated.{number_said, says, named_found, refused_by_header, refused_by_operation, refused_by_party, refused_by_spare, refused_by_none}
 use Rattle.format.proofs.gate.read_named.Goals as goal
+use Rattle.format.proofs.gate.read_named.Goals.{After-is_spare}
+
+-- the party's record, where it is one of the image's: its place, and what was found of its spare bytes
+inside : (c : After-is_spare) → c.args.party < parties_at c.args.image.now
+inside c =
+    let said = says c.args.image.now _ c.read_header-h.ensures c.if-h-ne0.false in
+    omega (arith, c.if-h-party.false, said.parties_are)
+
+at_is : (c : After-is_spare) → c.records_base.result + 32 * c.args.party ≡ party_place c.args.image.now c.args.party
+at_is c =
+    let said = says c.args.image.now _ c.read_header-h.ensures c.if-h-ne0.false in
+    omega (arith, c.records_base.ensures, said.max_is)
+
+spare : (c : After-is_spare) → c.is_spare.result ≡ is_spare (version_at c.args.image.now) c.args.image.now (party_place c.args.image.now c.args.party)
+spare c = c.is_spare.ensures ∙ ap (is_spare (version_at c.args.image.now) c.args.image.now) (at_is c)
 
 pub returns-then-h-ne0 : goal.returns-then-h-ne0
 returns-then-h-ne0 c =
@@ -33,22 +48,14 @@ is_spare-requires c =
 
 pub returns-then-not-is_spare : goal.returns-then-not-is_spare
 returns-then-not-is_spare c =
-    let image = c.args.image.now in
-    let party = c.args.party in
-    let said = says image _ c.read_header-h.ensures c.if-h-ne0.false in
-    let inside : party < parties_at image = omega (arith, c.if-h-party.false, said.parties_are) in
-    let at_is : c.records_base.result + 32 * party ≡ party_place image party = omega (arith, c.records_base.ensures, said.max_is) in
-    let spare = c.is_spare.ensures ∙ ap (is_spare (version_at image) image) at_is in
+    let at = (goal.at.returns-then-not-is_spare c).After-is_spare in
+    let said = says c.args.image.now _ c.read_header-h.ensures c.if-h-ne0.false in
     c.not_named-then-not-is_spare.ensures
-    ∙ sym (refused_by_spare _ _ party said.taken c.if-unknown.false inside (sym spare ∙ c.if-not-is_spare.true))
+    ∙ sym (refused_by_spare _ _ c.args.party said.taken c.if-unknown.false (inside at) (sym (spare at) ∙ c.if-not-is_spare.true))
 
 pub returns : goal.returns
 returns c =
-    let image = c.args.image.now in
-    let party = c.args.party in
-    let said = says image _ c.read_header-h.ensures c.if-h-ne0.false in
-    let inside : party < parties_at image = omega (arith, c.if-h-party.false, said.parties_are) in
-    let at_is : c.records_base.result + 32 * party ≡ party_place image party = omega (arith, c.records_base.ensures, said.max_is) in
-    let spare = c.is_spare.ensures ∙ ap (is_spare (version_at image) image) at_is in
-    let none = refused_by_none _ _ party said.taken c.if-unknown.false inside (sym spare ∙ c.if-not-is_spare.false) in
-    rw (said.max_is, at_is) (sym (named_found _ _ party none))
+    let at = (goal.at.returns c).After-is_spare in
+    let said = says c.args.image.now _ c.read_header-h.ensures c.if-h-ne0.false in
+    let none = refused_by_none _ _ c.args.party said.taken c.if-unknown.false (inside at) (sym (spare at) ∙ c.if-not-is_spare.false) in
+    rw (said.max_is, at_is at) (sym (named_found _ _ c.args.party none))
