@@ -5,8 +5,10 @@ use mathlib.Core.List.{List}
 use native.Mathlib.Omega.{arith}
 use Rattle.party.specs.Answer.{number_of, carried_of}
 use Rattle.record.specs.declared.Record.{Record}
+use Rattle.std.specs.declared.result.Result.{Result}
+use Rattle.refusal.specs.declared.Refusal.{Refusal}
+use Rattle.refusal.proofs.Checks.{refusal_is_small}
 use Rattle.party.specs.declared.Answer.{Answer}
-use Rattle.party.proofs.Refusals.{refusal_is_small}
 use Rattle.step.specs.Step.{step_of}
 use Rattle.step.proofs.Went.{GoneOn}
 use Rattle.step.proofs.Stepped.{Stepped, stepped}
@@ -36,15 +38,15 @@ step_carries strip r hint (GoneOn.pop_5 s p t gone) = rw gone.answered (omega ar
 step_carries strip r hint (GoneOn.loses place from to then access other gone) = rw gone.answered (omega arith)
 
 module _ (strip : List ℕ) (table : List Record) (call : Call) where
-  abbrev Small : Answer → Type 0
+  abbrev Small : Result Answer Refusal → Type 0
   Small answer = (number_of answer ≤ 19) × (carried_of answer < 4294967296)
 
   small : Small (call_of strip table call).answer
   small = go (called strip table call)
     where
       go : Called strip table call → Small (call_of strip table call).answer
-      go (Called.refuses number refusal left) =
-          let below = refusal_is_small number refusal in rw left.answered (omega arith, omega arith)
+      go (Called.refuses refusal left) =
+          let below = refusal_is_small refusal in rw left.answered (omega arith, omega arith)
       go (Called.starts party operation order is known clear left) = rw left.answered (omega arith, omega arith)
       go (Called.withdraws party is known left) = rw left.answered (omega arith, omega arith)
       go (Called.steps party hint is known clear on left) =

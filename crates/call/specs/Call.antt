@@ -1,13 +1,17 @@
 -- Start, step and withdraw of a party on a strip and a table of records: what a call answers and leaves. Whatever holds a table,
 -- a run, an image or lent records, promises this.
-use Rattle.std.specs.Prelude.{ℕ, ◌<◌, ◌≡◌, Bool, false, not, ◌&&◌, List, length, get_or, set, eqb, leb, ltb}
+use Rattle.std.specs.Prelude.{ℕ, ◌<◌, ◌≡◌, Bool, false, not, ◌&&◌, List, length, get_or, set, leb, ltb}
+use Rattle.std.specs.declared.result.Result.{Result}
+use Rattle.std.specs.declared.result.Result.TheVariants.{Ok, Err}
 use Rattle.logic.specs.Pick.{pick}
+use Rattle.refusal.specs.declared.Refusal.{Refusal}
+use Rattle.refusal.specs.declared.Refusal.TheVariants.{WrongSize, WrongOperation, WrongParty}
+use Rattle.refusal.specs.Refusal.{Check, passes}
 use Rattle.record.specs.Record.{idle}
 use Rattle.party.specs.Answer.{carried_of}
 use Rattle.party.specs.Calls.{start_of, withdraw_of}
 use Rattle.record.specs.declared.Record.{Record}
 use Rattle.party.specs.declared.Answer.{Answer}
-use Rattle.party.specs.declared.Answer.TheVariants.{Refused}
 use Rattle.party.specs.declared.Answered.{Answered}
 use Rattle.step.specs.Step.{strip_fits, max_of, step_of, step_leaves}
 
@@ -38,13 +42,13 @@ Fitting (step party hint) = Unit {0}
 Fitting (withdraw party) = Unit {0}
 
 -- the checks before the record's own: sizes, operation, party number
-abbrev pub gate_of : (words parties : ℕ) (unknown : Bool) (party : ℕ) → ℕ
+abbrev pub gate_of : (words parties : ℕ) (unknown : Bool) (party : ℕ) → Check
 gate_of words parties unknown party =
-    pick (not (strip_fits words && table_fits parties)) 1
-    (pick unknown 11
-    (pick (leb parties party) 3 0))
+    pick (not (strip_fits words && table_fits parties)) (Err WrongSize)
+    (pick unknown (Err WrongOperation)
+    (pick (leb parties party) (Err WrongParty) passes))
 
-unfoldable pub gate : (words parties : ℕ) → Call → ℕ
+unfoldable pub gate : (words parties : ℕ) → Call → Check
 gate words parties call = gate_of words parties (is_unknown call) (party_of call)
 
 -- the call on the party's own record
@@ -60,7 +64,7 @@ own_leaves strip r (withdraw party) = strip
 
 -- what a call answers, and the strip and the table it leaves
 pub record Left : Type 0 where
-  pub answer : Answer
+  pub answer : Result Answer Refusal
   pub strip : List ℕ
   pub table : List Record
 
@@ -75,13 +79,16 @@ through strip table call =
       table = set table (party_of call) (own_of strip (record_of table call) call).rec;
     }
 
-abbrev pub turned_away : List ℕ → List Record → (number : ℕ) → Left
-turned_away strip table number = record { answer = Refused number; strip = strip; table = table }
+abbrev pub turned_away : List ℕ → List Record → Refusal → Left
+turned_away strip table refusal = record { answer = Err refusal; strip = strip; table = table }
+
+-- what the gate decides: through to the party's own record, or turned away
+abbrev pub past : Check → List ℕ → List Record → Call → Left
+past (Ok passed) strip table call = through strip table call
+past (Err refusal) strip table call = turned_away strip table refusal
 
 unfoldable pub call_of : List ℕ → List Record → Call → Left
-call_of strip table call =
-    pick (eqb (gate (length strip) (length table) call) 0) (through strip table call)
-    (turned_away strip table (gate (length strip) (length table) call))
+call_of strip table call = past (gate (length strip) (length table) call) strip table call
 
 -- What a refused call leaves: it carries no order and leaves every word and every record.
 pub record Unchanged (strip : List ℕ) (table : List Record) (left : Left) : Type 0 where

@@ -4,23 +4,27 @@
 ghost use Rattle.std.specs.Prelude.{◌≡◌};
 ghost use Rattle.call.specs.Call.{table_fits, gate_of};
 
-use logic::pick_u32;
+use refusal::Refusal;
 use step::strip_fits;
 
 pub fn table_fits(parties: usize) -> bool
     ensures { result ≡ table_fits parties }
 {
-    (1 <= parties) & (parties <= 16)
+    (1..=16).contains(&parties)
 }
 
 // Sizes, operation, party number.
-pub fn gated(words: usize, unknown: bool, parties: usize, party: u32) -> u32
+pub fn gated(words: usize, unknown: bool, parties: usize, party: u32) -> Result<(), Refusal>
     ensures { result ≡ gate_of words parties unknown party }
 {
-    let absent = pick_u32(parties <= party as usize, 3, 0);
-    pick_u32(
-        !(strip_fits(words) & table_fits(parties)),
-        1,
-        pick_u32(unknown, 11, absent),
-    )
+    if !(strip_fits(words) & table_fits(parties)) {
+        return Err(Refusal::WrongSize);
+    }
+    if unknown {
+        return Err(Refusal::WrongOperation);
+    }
+    if parties <= party as usize {
+        return Err(Refusal::WrongParty);
+    }
+    Ok(())
 }

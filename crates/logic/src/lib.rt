@@ -1,14 +1,10 @@
-// One of two by a test, at each width that the library chooses at.
+// One of two by a test.
+#![tactic(auto)]
+
 ghost use Rattle.std.specs.Prelude.{◌≡◌};
 ghost use Rattle.logic.specs.Pick.{pick};
 
-pub fn pick_bool(test: bool, a: bool, b: bool) -> bool
-    ensures { result ≡ pick test a b }
-{
-    if test { a } else { b }
-}
-
-pub fn pick_u32(test: bool, a: u32, b: u32) -> u32
+pub fn pick<T: Drop>(test: bool, a: T, b: T) -> T
     ensures { result ≡ pick test a b }
 {
     if test { a } else { b }

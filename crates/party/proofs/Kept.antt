@@ -4,11 +4,13 @@ use Prim.Native.Nat.{ℕ, ◌<◌}
 use mathlib.Core.Path.{◌≡◌, refl, sym, ◌∙◌}
 use mathlib.Core.Bool.{Bool, true, false, not, true≢false}
 use mathlib.Core.Logic.{inl, inr}
-use lib.Dec.{eqb, ltb}
-use borrow.Author.Tests.{lt-ltb, eqb-true}
+use lib.Dec.{ltb}
+use borrow.Author.Tests.{lt-ltb}
 use native.Mathlib.Omega.{arith}
 use Rattle.logic.specs.Pick.{pick}
-use Rattle.logic.proofs.Bools.{whichever}
+use Rattle.std.specs.declared.result.Result.TheVariants.{Ok, Err}
+use Rattle.refusal.specs.declared.Refusal.TheVariants.{WrongSize, WrongOperation, NotValid, Busy, Idle, WrongOrder}
+use Rattle.refusal.specs.Refusal.{Check, passes}
 use Rattle.record.specs.Operation.{order_fits}
 use Rattle.record.specs.Record.{idle, begun}
 use Rattle.record.specs.Valid.{is_idle, valid_of}
@@ -27,8 +29,9 @@ two_that_keep_it_are_equal p q = p ∙ sym q
 going_on_keeps : (r next : Record) → RefusedKeeps r (going_on next)
 going_on_keeps r next refused = absurd (true≢false (sym refused))
 
-pub unless_keeps : (number : ℕ) (r : Record) (done : Answered) → RefusedKeeps r done → RefusedKeeps r (unless number r done)
-unless_keeps number r done keeps = whichever (RefusedKeeps r) (eqb number 0) keeps (λ refused. (refl, refl))
+pub unless_keeps : (check : Check) (r : Record) (done : Answered) → RefusedKeeps r done → RefusedKeeps r (unless check r done)
+unless_keeps (Ok passed) r done keeps = keeps
+unless_keeps (Err refusal) r done keeps = λ refused. (refl, refl)
 
 pub refused_start_changes_nothing : (max : ℕ) (r : Record) (operation order : ℕ)
     → RefusedKeeps r (start_of max r operation order)
@@ -51,13 +54,10 @@ begun_is_valid max operation order known ordered =
     at_valid max (begun operation order) (ValidAt.at1 refl (rw (lt-ltb operation 4 known, ordered) refl) refl)
 
 -- a call that passes its checks leaves `next`, a refused one the record itself
-unless_valid : (max number : ℕ) (r next : Record) → valid_of max r ≡ true → (number ≡ 0 → valid_of max next ≡ true)
-    → valid_of max (unless number r (going_on next)).rec ≡ true
-unless_valid max number r next valid then = go (eqb number 0) refl
-  where
-    go : (none : Bool) → eqb number 0 ≡ none → valid_of max (pick none (going_on next) (refused number r)).rec ≡ true
-    go true e = then (eqb-true number 0 e)
-    go false e = valid
+unless_valid : (max : ℕ) (check : Check) (r next : Record) → valid_of max r ≡ true → (check ≡ passes → valid_of max next ≡ true)
+    → valid_of max (unless check r (going_on next)).rec ≡ true
+unless_valid max (Ok passed) r next valid then = then refl
+unless_valid max (Err refusal) r next valid then = valid
 
 pub start_keeps_valid : (max : ℕ) (r : Record) (operation order : ℕ) → valid_of max r ≡ true
     → valid_of max (start_of max r operation order).rec ≡ true
@@ -73,9 +73,9 @@ unfolding withdraw_of
 withdraw_keeps_valid max r valid = unless_valid max (withdraw_refusal max r) r idle valid (λ none. idle_is_valid max)
 
 -- MAX decides whether it is in bounds and whether the record is valid, and nothing else
-at_another_max : (fits unknown valid : Bool) (rest : ℕ) (r next : Record)
-    → RefusedOr (unless (pick unknown 11 rest) r (going_on next))
-    (unless (pick (not fits) 1 (pick unknown 11 (pick (not valid) 4 rest))) r (going_on next))
+at_another_max : (fits unknown valid : Bool) (rest : Check) (r next : Record)
+    → RefusedOr (unless (pick unknown (Err WrongOperation) rest) r (going_on next))
+    (unless (pick (not fits) (Err WrongSize) (pick unknown (Err WrongOperation) (pick (not valid) (Err NotValid) rest))) r (going_on next))
 at_another_max false unknown valid rest r next = inl refl
 at_another_max true true valid rest r next = inr refl
 at_another_max true false false rest r next = inl refl
@@ -88,9 +88,9 @@ module _ (max other : ℕ) (r : Record) (fits : max_fits max ≡ true) (valid : 
   start_at_another_max_is_refused_or_the_same operation order =
       rw (fits, valid)
       (at_another_max (max_fits other) (ltb 3 operation) (valid_of other r)
-      (pick (not (is_idle r)) 5 (pick (not (order_fits operation order)) 7 0)) r (begun operation order))
+      (pick (not (is_idle r)) (Err Busy) (pick (not (order_fits operation order)) (Err WrongOrder) passes)) r (begun operation order))
 
   pub withdraw_at_another_max_is_refused_or_the_same : RefusedOr (withdraw_of max r) (withdraw_of other r)
   unfolding withdraw_of withdraw_refusal withdraw_own
   withdraw_at_another_max_is_refused_or_the_same =
-      rw (fits, valid) (at_another_max (max_fits other) false (valid_of other r) (pick (is_idle r) 6 0) r idle)
+      rw (fits, valid) (at_another_max (max_fits other) false (valid_of other r) (pick (is_idle r) (Err Idle) passes) r idle)

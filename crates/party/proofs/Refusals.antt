@@ -1,50 +1,38 @@
--- Every ladder of checks ends at 0 or at one of the table's refusals.
-use Prim.Native.Nat.{ℕ, ◌≤◌}
-use mathlib.Core.Path.{◌≡◌, refl, sym, ◌∙◌, ap}
-use mathlib.Core.Bool.{true, not, true≢false}
-use lib.Dec.{leb, ltb}
-use borrow.Author.Tests.{ne_eqb, leb-true}
-use native.Mathlib.Omega.{arith}
-use Rattle.logic.proofs.Bools.{both, whichever}
-use Rattle.record.specs.Operation.{order_fits}
-use Rattle.record.specs.Valid.{is_idle, valid_of}
-use Rattle.party.specs.Answer.{is_refusal, refused, unless}
-use Rattle.party.specs.Calls.{max_fits, start_own, start_refusal, withdraw_own, withdraw_refusal}
+-- Every refusal's number is one of document 01's refusals, so that every check ends at 0 or at one of them.
+use Rattle.std.specs.Prelude.{ℕ, ◌≡◌, true}
+use Rattle.std.proofs.Common.{refl}
+use Rattle.refusal.specs.declared.Refusal.{Refusal}
+use Rattle.refusal.specs.declared.Refusal.TheVariants.{WrongSize, WrongMark, WrongOperation, WrongParty, NotValid, Busy, Idle, WrongOrder, Outside, CounterAtEnd, NoPlace, NotShaped}
+use Rattle.std.specs.declared.result.Result.TheVariants.{Ok, Err}
+use Rattle.refusal.specs.Refusal.{refusal_number, Check, check_number}
 use Rattle.record.specs.declared.Record.{Record}
-use Rattle.party.specs.declared.Answered.{Answered}
+use Rattle.party.specs.Answer.{is_refusal}
+use Rattle.party.specs.Calls.{start_refusal, withdraw_refusal}
+
+pub every_refusal_is_one : (refusal : Refusal) → is_refusal (refusal_number refusal) ≡ true
+every_refusal_is_one WrongSize = refl
+every_refusal_is_one WrongMark = refl
+every_refusal_is_one WrongOperation = refl
+every_refusal_is_one WrongParty = refl
+every_refusal_is_one NotValid = refl
+every_refusal_is_one Busy = refl
+every_refusal_is_one Idle = refl
+every_refusal_is_one WrongOrder = refl
+every_refusal_is_one Outside = refl
+every_refusal_is_one CounterAtEnd = refl
+every_refusal_is_one NoPlace = refl
+every_refusal_is_one NotShaped = refl
 
 pub data Checked (number : ℕ) : Type 0 where
   none : number ≡ 0 → Checked number
   some : is_refusal number ≡ true → Checked number
 
-pub refusal_is_not_0 : (number : ℕ) → is_refusal number ≡ true → number ≡ 0 → ⊥
-refusal_is_not_0 number refusal e = true≢false (sym refusal ∙ ap is_refusal e)
+pub every_check_ends : (check : Check) → Checked (check_number check)
+every_check_ends (Ok passed) = none refl
+every_check_ends (Err refusal) = some (every_refusal_is_one refusal)
 
-pub refusal_is_small : (number : ℕ) → is_refusal number ≡ true → number ≤ 12
-refusal_is_small number refusal = leb-true number 12 (both (leb 1 number) (leb number 12) refusal).1
+pub start_checked : (max : ℕ) (r : Record) (operation order : ℕ) → Checked (check_number (start_refusal max r operation order))
+start_checked max r operation order = every_check_ends (start_refusal max r operation order)
 
-pub checked_is_small : {number : ℕ} → Checked number → number ≤ 12
-checked_is_small (none e) = omega arith
-checked_is_small {number} (some refusal) = refusal_is_small number refusal
-
--- what such a number decides
-pub unless_none : (number : ℕ) (r : Record) (done : Answered) → number ≡ 0 → unless number r done ≡ done
-unless_none number r done e = rw e refl
-
-pub unless_some : (number : ℕ) (r : Record) (done : Answered) → (number ≡ 0 → ⊥) → unless number r done ≡ refused number r
-unless_some number r done h = rw (ne_eqb number 0 h) refl
-
-pub start_checked : (max : ℕ) (r : Record) (operation order : ℕ) → Checked (start_refusal max r operation order)
-unfolding start_refusal start_own
-start_checked max r operation order =
-    whichever Checked (not (max_fits max)) (some refl)
-    (whichever Checked (ltb 3 operation) (some refl)
-    (whichever Checked (not (valid_of max r)) (some refl)
-    (whichever Checked (not (is_idle r)) (some refl)
-    (whichever Checked (not (order_fits operation order)) (some refl) (none refl)))))
-
-pub withdraw_checked : (max : ℕ) (r : Record) → Checked (withdraw_refusal max r)
-unfolding withdraw_refusal withdraw_own
-withdraw_checked max r =
-    whichever Checked (not (max_fits max)) (some refl)
-    (whichever Checked (not (valid_of max r)) (some refl) (whichever Checked (is_idle r) (some refl) (none refl)))
+pub withdraw_checked : (max : ℕ) (r : Record) → Checked (check_number (withdraw_refusal max r))
+withdraw_checked max r = every_check_ends (withdraw_refusal max r)

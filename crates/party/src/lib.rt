@@ -9,92 +9,85 @@ ghost use Rattle.party.specs.Calls.{max_fits, start_own, start_refusal, start_of
 ghost use Rattle.party.specs.Calls.{withdraw_own, withdraw_refusal, withdraw_of};
 
 use crate::make::{going_on, refused_with};
-use logic::pick_u32;
 use record::Record;
-use record::make::{begun_record, idle_record};
 use record::side::order_fits;
-use record::valid::is_valid;
+use refusal::Refusal;
 
-// What a call answers: specs/Answer.antt gives document 01's number and carried order for each case.
-#[derive(Clone, Copy)]
+// What a call that is not refused answers: specs/Answer.antt gives document 01's number and carried order for each case.
+#[derive(Clone, Copy, Debug, PartialEq, Eq)]
 pub enum Answer {
     GoesOn,
     Pushed,
     Popped(u32),
     Full,
     Empty,
-    Refused(u32),
 }
 
 // The answer of a call that was handed a record by value, and the record it leaves.
 #[derive(Clone, Copy)]
 pub struct Answered {
-    pub answer: Answer,
+    pub answer: Result<Answer, Refusal>,
     pub rec: Record,
 }
 
 // Document 01's number of an answer.
-pub fn number(answer: Answer) -> u32
+pub fn number(answer: Result<Answer, Refusal>) -> u32
     ensures { result ≡ number_of answer }
 {
     match answer {
-        Answer::GoesOn => 0,
-        Answer::Pushed => 16,
-        Answer::Popped(_) => 17,
-        Answer::Full => 18,
-        Answer::Empty => 19,
-        Answer::Refused(number) => number,
+        Ok(Answer::GoesOn) => 0,
+        Ok(Answer::Pushed) => 16,
+        Ok(Answer::Popped(_)) => 17,
+        Ok(Answer::Full) => 18,
+        Ok(Answer::Empty) => 19,
+        Err(refusal) => refusal.number(),
     }
 }
 
 // The order that an answer carries.
-pub fn carried(answer: Answer) -> u32
+pub fn carried(answer: Result<Answer, Refusal>) -> u32
     ensures { result ≡ carried_of answer }
 {
     match answer {
-        Answer::GoesOn => 0,
-        Answer::Pushed => 0,
-        Answer::Popped(order) => order,
-        Answer::Full => 0,
-        Answer::Empty => 0,
-        Answer::Refused(_) => 0,
+        Ok(Answer::Popped(order)) => order,
+        _ => 0,
     }
 }
 
 fn max_fits(max: u32) -> bool
     ensures { result ≡ max_fits max }
 {
-    (1 <= max) & (max <= 4094)
+    (1..=4094).contains(&max)
 }
 
 // The record's own checks, public for the other kinds of memory.
 #[tactic(auto, unfolding(crate::specs::Calls::start_own))]
-pub fn start_own(max: u16, r: Record, operation: u8, order: u32) -> u32
+pub fn start_own(max: u16, r: Record, operation: u8, order: u32) -> Result<(), Refusal>
     ensures { result ≡ start_own max r operation order }
 {
-    if !is_valid(max, r) {
-        return 4;
+    if !r.is_valid(max) {
+        return Err(Refusal::NotValid);
     }
     if r.stage != 0 {
-        return 5;
+        return Err(Refusal::Busy);
     }
     if !order_fits(operation, order) {
-        return 7;
+        return Err(Refusal::WrongOrder);
     }
-    0
+    Ok(())
 }
 
 #[tactic(auto, unfolding(crate::specs::Calls::start_refusal))]
-fn start_refusal(max: u32, r: Record, operation: u32, order: u32) -> u32
+fn start_refusal(max: u32, r: Record, operation: u32, order: u32) -> Result<(), Refusal>
     ensures { result ≡ start_refusal max r operation order }
 {
-    if max_fits(max) {
-        if 3 < operation {
-            return 11;
-        }
-        return start_own(max as u16, r, operation as u8, order);
+    if !max_fits(max) {
+        return Err(Refusal::WrongSize);
     }
-    1
+    if 3 < operation {
+        return Err(Refusal::WrongOperation);
+    }
+    start_own(max as u16, r, operation as u8, order)
 }
 
 // Start: operation and order into an idle record.
@@ -102,28 +95,33 @@ fn start_refusal(max: u32, r: Record, operation: u32, order: u32) -> u32
 pub fn start(max: u32, r: Record, operation: u32, order: u32) -> Answered
     ensures { result ≡ start_of max r operation order }
 {
-    let number = start_refusal(max, r, operation, order);
-    if number != 0 {
-        return refused_with(number, r);
+    match start_refusal(max, r, operation, order) {
+        Ok(()) => going_on(Record::begun(operation as u8, order)),
+        Err(refusal) => refused_with(refusal, r),
     }
-    going_on(begun_record(operation as u8, order))
 }
 
 #[tactic(auto, unfolding(crate::specs::Calls::withdraw_own))]
-pub fn withdraw_own(max: u16, r: Record) -> u32
+pub fn withdraw_own(max: u16, r: Record) -> Result<(), Refusal>
     ensures { result ≡ withdraw_own max r }
 {
-    pick_u32(!is_valid(max, r), 4, pick_u32(r.stage == 0, 6, 0))
+    if !r.is_valid(max) {
+        Err(Refusal::NotValid)
+    } else if r.stage == 0 {
+        Err(Refusal::Idle)
+    } else {
+        Ok(())
+    }
 }
 
 #[tactic(auto, unfolding(crate::specs::Calls::withdraw_refusal))]
-fn withdraw_refusal(max: u32, r: Record) -> u32
+fn withdraw_refusal(max: u32, r: Record) -> Result<(), Refusal>
     ensures { result ≡ withdraw_refusal max r }
 {
-    if max_fits(max) {
-        return withdraw_own(max as u16, r);
+    if !max_fits(max) {
+        return Err(Refusal::WrongSize);
     }
-    1
+    withdraw_own(max as u16, r)
 }
 
 // Withdraw: a busy record becomes all zero.
@@ -131,9 +129,8 @@ fn withdraw_refusal(max: u32, r: Record) -> u32
 pub fn withdraw(max: u32, r: Record) -> Answered
     ensures { result ≡ withdraw_of max r }
 {
-    let number = withdraw_refusal(max, r);
-    if number != 0 {
-        return refused_with(number, r);
+    match withdraw_refusal(max, r) {
+        Ok(()) => going_on(Record::idle()),
+        Err(refusal) => refused_with(refusal, r),
     }
-    going_on(idle_record())
 }

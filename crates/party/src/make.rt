@@ -4,13 +4,13 @@ ghost use Rattle.party.specs.Answer.{going_on, ends, refused};
 
 use crate::{Answer, Answered};
 use record::Record;
-use record::make::idle_record;
+use refusal::Refusal;
 
 pub fn going_on(r: Record) -> Answered
     ensures { result ≡ going_on r }
 {
     Answered {
-        answer: Answer::GoesOn,
+        answer: Ok(Answer::GoesOn),
         rec: r,
     }
 }
@@ -19,16 +19,16 @@ pub fn ended(answer: Answer) -> Answered
     ensures { result ≡ ends answer }
 {
     Answered {
-        answer,
-        rec: idle_record(),
+        answer: Ok(answer),
+        rec: Record::idle(),
     }
 }
 
-pub fn refused_with(number: u32, r: Record) -> Answered
-    ensures { result ≡ refused number r }
+pub fn refused_with(refusal: Refusal, r: Record) -> Answered
+    ensures { result ≡ refused refusal r }
 {
     Answered {
-        answer: Answer::Refused(number),
+        answer: Err(refusal),
         rec: r,
     }
 }

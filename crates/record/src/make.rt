@@ -4,62 +4,58 @@ ghost use Rattle.record.specs.Record.{idle, begun, again, at_stage, with_place, 
 
 use crate::Record;
 
-pub fn idle_record() -> Record
-    ensures { result ≡ idle }
-{
-    Record {
-        operation: 0,
-        stage: 0,
-        k: 0,
-        v: 0,
-        first: 0,
-        second: 0,
+impl Record {
+    pub fn idle() -> Record
+        ensures { result ≡ idle }
+    {
+        Record {
+            operation: 0,
+            stage: 0,
+            k: 0,
+            v: 0,
+            first: 0,
+            second: 0,
+        }
     }
-}
 
-pub fn begun_record(operation: u8, v: u32) -> Record
-    ensures { result ≡ begun operation v }
-{
-    Record {
-        operation,
-        stage: 1,
-        k: 0,
-        v,
-        first: 0,
-        second: 0,
+    pub fn begun(operation: u8, v: u32) -> Record
+        ensures { result ≡ begun operation v }
+    {
+        Record {
+            operation,
+            stage: 1,
+            v,
+            ..Record::idle()
+        }
     }
-}
 
-pub fn begun_again(r: Record) -> Record
-    ensures { result ≡ again r }
-{
-    begun_record(r.operation, r.v)
-}
+    pub fn begun_again(self) -> Record
+        ensures { result ≡ again self }
+    {
+        Record::begun(self.operation, self.v)
+    }
 
-pub fn at_stage(stage: u8, mut r: Record) -> Record
-    ensures { result ≡ at_stage stage r }
-{
-    r.stage = stage;
-    r
-}
+    pub fn at_stage(self, stage: u8) -> Record
+        ensures { result ≡ at_stage stage self }
+    {
+        Record { stage, ..self }
+    }
 
-pub fn with_place(k: u16, mut r: Record) -> Record
-    ensures { result ≡ with_place k r }
-{
-    r.k = k;
-    r
-}
+    pub fn with_place(self, k: u16) -> Record
+        ensures { result ≡ with_place k self }
+    {
+        Record { k, ..self }
+    }
 
-pub fn with_first(word: u64, mut r: Record) -> Record
-    ensures { result ≡ with_first word r }
-{
-    r.first = word;
-    r
-}
+    pub fn with_first(self, first: u64) -> Record
+        ensures { result ≡ with_first first self }
+    {
+        Record { first, ..self }
+    }
 
-pub fn with_second(word: u64, mut r: Record) -> Record
-    ensures { result ≡ with_second word r }
-{
-    r.second = word;
-    r
+    pub fn with_second(self, second: u64) -> Record
+        ensures { result ≡ with_second second self }
+    {
+        Record { second, ..self }
+    }
 }

@@ -7,76 +7,83 @@ ghost use Rattle.record.specs.Valid.{idle_fits, operation_fits, place_fits, noth
 use crate::Record;
 use crate::side::{in_range, is_push, wall_of};
 
-fn idle_fits(r: Record) -> bool
-    ensures { result ≡ idle_fits r }
-{
-    (r.operation == 0) & (r.k == 0) & (r.v == 0) & (r.first == 0) & (r.second == 0)
-}
-
-fn operation_fits(r: Record) -> bool
-    ensures { result ≡ operation_fits r }
-{
-    if 3 < r.operation {
-        return false;
+impl Record {
+    // All but the stage, as its definition has it: by == a record of this stage had to be made first.
+    fn idle_fits(self) -> bool
+        ensures { result ≡ idle_fits self }
+    {
+        (self.operation == 0)
+            & (self.k == 0)
+            & (self.v == 0)
+            & (self.first == 0)
+            & (self.second == 0)
     }
-    if is_push(r.operation) {
-        return 3 <= r.v;
-    }
-    r.v == 0
-}
 
-fn place_fits(max: u16, r: Record) -> bool
-    ensures { result ≡ place_fits max r }
-{
-    in_range(max, r.operation, r.k as u32)
-}
-
-fn nothing_read(r: Record) -> bool
-    ensures { result ≡ nothing_read r }
-{
-    (r.k == 0) & (r.first == 0) & (r.second == 0)
-}
-
-pub fn at_wall(max: u16, r: Record) -> bool
-    ensures { result ≡ at_wall max r }
-{
-    r.k as u32 == wall_of(max, r.operation)
-}
-
-fn off_wall(max: u16, r: Record) -> bool
-    ensures { result ≡ not (is_push r.operation && at_wall max r) }
-{
-    !(is_push(r.operation) & at_wall(max, r))
-}
-
-fn stage_fits(max: u16, r: Record) -> bool
-    ensures { result ≡ stage_fits max r }
-{
-    let stage = r.stage;
-    if stage == 1 {
-        return nothing_read(r);
+    fn operation_fits(self) -> bool
+        ensures { result ≡ operation_fits self }
+    {
+        if 3 < self.operation {
+            return false;
+        }
+        if is_push(self.operation) {
+            return 3 <= self.v;
+        }
+        self.v == 0
     }
-    if !place_fits(max, r) {
-        return false;
-    }
-    match stage {
-        2 => r.second == 0,
-        3 => !is_push(r.operation),
-        4 => off_wall(max, r),
-        5 => off_wall(max, r),
-        _ => false,
-    }
-}
 
-#[tactic(auto, unfolding(crate::specs::Valid::valid_of))]
-pub fn is_valid(max: u16, r: Record) -> bool
-    ensures { result ≡ valid_of max r }
-{
-    if r.stage == 0 {
-        return idle_fits(r);
+    fn place_fits(self, max: u16) -> bool
+        ensures { result ≡ place_fits max self }
+    {
+        in_range(max, self.operation, self.k as u32)
     }
-    if !operation_fits(r) {
-        return false;
+
+    fn nothing_read(self) -> bool
+        ensures { result ≡ nothing_read self }
+    {
+        (self.k == 0) & (self.first == 0) & (self.second == 0)
     }
-    stage_fits(max, r)
+
+    pub fn at_wall(self, max: u16) -> bool
+        ensures { result ≡ at_wall max self }
+    {
+        self.k as u32 == wall_of(max, self.operation)
+    }
+
+    fn off_wall(self, max: u16) -> bool
+        ensures { result ≡ not (is_push self.operation && at_wall max self) }
+    {
+        !(is_push(self.operation) & self.at_wall(max))
+    }
+
+    fn stage_fits(self, max: u16) -> bool
+        ensures { result ≡ stage_fits max self }
+    {
+        if self.stage == 1 {
+            return self.nothing_read();
+        }
+        if !self.place_fits(max) {
+            return false;
+        }
+        match self.stage {
+            2 => self.second == 0,
+            3 => !is_push(self.operation),
+            // Not 4 | 5: with one arm the compiler takes up to ten instructions more for a step at stage 5 (measured).
+            4 => self.off_wall(max),
+            5 => self.off_wall(max),
+            _ => false,
+        }
+    }
+
+    #[tactic(auto, unfolding(crate::specs::Valid::valid_of))]
+    pub fn is_valid(self, max: u16) -> bool
+        ensures { result ≡ valid_of max self }
+    {
+        if self.stage == 0 {
+            return self.idle_fits();
+        }
+        if !self.operation_fits() {
+            return false;
+        }
+        self.stage_fits(max)
+    }
 }

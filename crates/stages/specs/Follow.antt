@@ -7,6 +7,7 @@ use Rattle.word.specs.declared.Swapped.TheVariants.{Won, Lost, Stuck}
 use Rattle.record.specs.Operation.{is_push}
 use Rattle.record.specs.Record.{again, at_stage, with_first, with_second}
 use Rattle.record.specs.Valid.{at_wall}
+use Rattle.refusal.specs.declared.Refusal.TheVariants.{CounterAtEnd}
 use Rattle.party.specs.Answer.{going_on, ends, refused}
 use Rattle.record.specs.declared.Record.{Record}
 use Rattle.party.specs.declared.Answered.{Answered}
@@ -53,4 +54,4 @@ won_of r Pop = ends (Popped (value_of r.first))
 abbrev pub swapped_of : Record → AfterSwap → Swapped → Answered
 swapped_of r then Won = won_of r then
 swapped_of r then (Lost met) = going_on (again r)
-swapped_of r then Stuck = refused 9 r
+swapped_of r then Stuck = refused CounterAtEnd r

@@ -6,9 +6,8 @@ use crate::{AfterLook, AfterSwap};
 use party::make::{ended, going_on, refused_with};
 use party::{Answer, Answered};
 use record::Record;
-use record::make::{at_stage, begun_again, with_first, with_second};
 use record::side::{far_null, is_push, own_null};
-use record::valid::at_wall;
+use refusal::Refusal;
 use word::{Swapped, value};
 
 fn is_misled(r: Record, word: u64) -> bool
@@ -21,7 +20,7 @@ fn is_misled(r: Record, word: u64) -> bool
 fn is_push_at_wall(max: u16, r: Record) -> bool
     ensures { result ≡ push_at_wall max r }
 {
-    is_push(r.operation) & at_wall(max, r)
+    is_push(r.operation) & r.at_wall(max)
 }
 
 fn is_pop_at_far(r: Record) -> bool
@@ -35,15 +34,15 @@ fn judge(max: u16, r: Record, word: u64) -> Answered
     ensures { result ≡ judge_of max r word }
 {
     if is_misled(r, word) {
-        return going_on(begun_again(r));
+        return going_on(r.begun_again());
     }
     if is_push_at_wall(max, r) {
         return ended(Answer::Full);
     }
     if is_pop_at_far(r) {
-        return going_on(at_stage(3, with_second(word, r)));
+        return going_on(r.with_second(word).at_stage(3));
     }
-    going_on(at_stage(4, with_second(word, r)))
+    going_on(r.with_second(word).at_stage(4))
 }
 
 #[tactic(auto, unfolding(crate::specs::Follow::recheck_of))]
@@ -53,14 +52,14 @@ fn recheck(r: Record, word: u64) -> Answered
     if word == r.first {
         return ended(Answer::Empty);
     }
-    going_on(at_stage(4, r))
+    going_on(r.at_stage(4))
 }
 
 pub fn looked(max: u16, r: Record, then: AfterLook, word: u64) -> Answered
     ensures { result ≡ looked_of max r then word }
 {
     match then {
-        AfterLook::Remember => going_on(at_stage(2, with_first(word, r))),
+        AfterLook::Remember => going_on(r.with_first(word).at_stage(2)),
         AfterLook::Judge => judge(max, r, word),
         AfterLook::Recheck => recheck(r, word),
     }
@@ -70,7 +69,7 @@ fn won(r: Record, then: AfterSwap) -> Answered
     ensures { result ≡ won_of r then }
 {
     match then {
-        AfterSwap::Onward => going_on(at_stage(5, r)),
+        AfterSwap::Onward => going_on(r.at_stage(5)),
         AfterSwap::Push => ended(Answer::Pushed),
         AfterSwap::Pop => ended(Answer::Popped(value(r.first))),
     }
@@ -81,7 +80,7 @@ pub fn swapped(r: Record, then: AfterSwap, got: Swapped) -> Answered
 {
     match got {
         Swapped::Won => won(r, then),
-        Swapped::Lost(_) => going_on(begun_again(r)),
-        Swapped::Stuck => refused_with(9, r),
+        Swapped::Lost(_) => going_on(r.begun_again()),
+        Swapped::Stuck => refused_with(Refusal::CounterAtEnd, r),
     }
 }

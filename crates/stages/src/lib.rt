@@ -11,7 +11,8 @@ use record::Record;
 use record::side::{neighbour_of, own_null};
 use word::value;
 
-// What follows a look: the word is remembered as the first; as the second, and judged; or rechecks the first.
+// What follows a look: the word is remembered as the first; as the second, and judged; or rechecks the first. A name and no closure: the
+// table is to say each case's successor, the swap on an image writes what follows by itself, and no function may hand a closure out.
 #[derive(Clone, Copy)]
 pub enum AfterLook {
     Remember,

@@ -3,7 +3,9 @@ use Prim.Native.Nat.{ℕ}
 use mathlib.Core.Path.{◌≡◌, refl, sym, ◌∙◌, ap, ap₂}
 use mathlib.Core.List.{List}
 use lib.ListN.{length, get_or}
-use borrow.Author.Tests.{ne_eqb}
+use Rattle.std.specs.declared.result.Result.TheVariants.{Err}
+use Rattle.refusal.specs.declared.Refusal.{Refusal}
+use Rattle.refusal.specs.Refusal.{passes}
 use Rattle.word.specs.Swap.{SwapPromise}
 use Rattle.word.specs.declared.Swapped.{Swapped}
 use Rattle.party.specs.Answer.{refused}
@@ -21,13 +23,13 @@ module _ (strip : List ℕ) (r : Record) (hint : ℕ) where
     pub answered : step_of strip r hint ≡ given
     pub words : step_leaves strip r hint ≡ left
 
-  -- a step that a check refuses gives its number and the record, and leaves every word
-  pub when_refused : (step_refusal (length strip) r hint ≡ 0 → ⊥) → Gone (refused (step_refusal (length strip) r hint) r) strip
+  -- a step that a check refuses gives that refusal and the record, and leaves every word
+  pub when_refused : (refusal : Refusal) → step_refusal (length strip) r hint ≡ Err refusal → Gone (refused refusal r) strip
   unfolding step_of step_leaves
-  when_refused h = let some = ne_eqb (step_refusal (length strip) r hint) 0 h in record { answered = rw some refl; words = rw some refl }
+  when_refused refusal e = record { answered = rw e refl; words = rw e refl }
 
   -- one that passes is what follows its access, here at a record and a word that the code has found
-  module _ (at : Record) (clear : step_refusal (length strip) r hint ≡ 0) (a : at ≡ aimed r hint) where
+  module _ (at : Record) (clear : step_refusal (length strip) r hint ≡ passes) (a : at ≡ aimed r hint) where
     pub when_looks : (place : ℕ) (then : AfterLook) (word : ℕ) → access_of at ≡ Look place then → word ≡ get_or strip place 0
         → Gone (looked_of (max_of (length strip)) at then word) strip
     unfolding step_of step_leaves

@@ -5,7 +5,9 @@ use mathlib.Core.Bool.{Bool, true, false, not}
 use lib.Dec.{eqb, leb}
 use borrow.Author.Tests.{leb-true, not-false, eqb-false}
 use native.Mathlib.Omega.{arith}
-use Rattle.logic.proofs.Bools.{both, passed, whichever}
+use Rattle.logic.proofs.Bools.{both, whichever}
+use Rattle.refusal.specs.Refusal.{passes}
+use Rattle.refusal.proofs.Checks.{passed}
 use Rattle.record.specs.Operation.{is_push}
 use Rattle.record.specs.Valid.{is_idle, valid_of, place_fits}
 use Rattle.record.specs.declared.Record.{Record}
@@ -37,14 +39,14 @@ aims max r hint busy (ValidAt.at3 s fits k pop) h = rw s k
 aims max r hint busy (ValidAt.at4 s fits swap) h = rw s (both (place_fits max r) _ swap).0
 aims max r hint busy (ValidAt.at5 s fits swap) h = rw s (both (place_fits max r) _ swap).0
 
-pub steppable : (words : ℕ) (r : Record) (hint : ℕ) → step_refusal words r hint ≡ 0 → Steppable words r hint
+pub steppable : (words : ℕ) (r : Record) (hint : ℕ) → step_refusal words r hint ≡ passes → Steppable words r hint
 unfolding step_refusal step_own
 steppable words r hint e =
     let max = max_of words in
-    let past1 = passed (not (strip_fits words)) 0 _ e in
-    let past4 = passed (not (valid_of max r)) 3 _ past1.1 in
-    let past6 = passed (is_idle r) 5 _ past4.1 in
-    let past8 = passed (not (hint_fits max r hint)) 7 0 past6.1 in
+    let past1 = passed (not (strip_fits words)) _ _ e in
+    let past4 = passed (not (valid_of max r)) _ _ past1.1 in
+    let past6 = passed (is_idle r) _ _ past4.1 in
+    let past8 = passed (not (hint_fits max r hint)) _ passes past6.1 in
     let valid = not-false (valid_of max r) past4.0 in
     record {
       strip_fits = not-false (strip_fits words) past1.0;

@@ -46,7 +46,7 @@ module _ (strip : List ℕ) (r : Record) (hint : ℕ) where
     where
       go : Went strip r hint → RefusedKeeps r (step_of strip r hint)
           × (is_refusal (number_of (step_of strip r hint).answer) ≡ true → step_leaves strip r hint ≡ strip)
-      go (Went.stays number refusal gone) = (
+      go (Went.stays refusal gone) = (
         λ h. (ap (λ (a : Answered). a.rec) gone.answered, ap (λ (a : Answered). carried_of a.answer) gone.answered),
         λ h. gone.words,
       )
@@ -104,5 +104,5 @@ module _ (strip : List ℕ) (r : Record) (hint : ℕ) where
   step_keeps_valid valid = go (went strip r hint)
     where
       go : Went strip r hint → valid_of (max_of (length strip)) (step_of strip r hint).rec ≡ true
-      go (Went.stays number refusal gone) = gone_valid gone valid
+      go (Went.stays refusal gone) = gone_valid gone valid
       go (Went.goes clear on) = going_on_keeps_valid clear on

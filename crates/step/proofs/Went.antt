@@ -2,28 +2,30 @@
 -- these cases.
 use Prim.Native.Nat.{ℕ}
 use mathlib.Core.Path.{◌≡◌, refl, subst}
-use mathlib.Core.Bool.{Bool, true, false, not}
+use mathlib.Core.Bool.{Bool, true, false}
 use mathlib.Core.List.{List}
 use lib.ListN.{length, get_or, set}
 use lib.Dec.{eqb}
 use borrow.Author.Tests.{eqb-true, eqb-false}
 use native.Mathlib.Omega.{arith}
-use Rattle.logic.proofs.Bools.{whichever}
 use Rattle.word.specs.Word.{value_of, raised_to}
 use Rattle.word.specs.Swap.{swap_of, words_after, Took}
 use Rattle.word.specs.declared.Swapped.{Swapped}
 use Rattle.word.proofs.Laws.{SwapGoes, swap_goes}
 use Rattle.record.specs.Operation.{is_push}
 use Rattle.record.specs.Record.{again, at_stage, with_place, with_first, with_second}
-use Rattle.record.specs.Valid.{is_idle, valid_of}
-use Rattle.party.specs.Answer.{is_refusal, going_on, ends, refused}
+use Rattle.refusal.specs.declared.Refusal.{Refusal}
+use Rattle.refusal.specs.declared.Refusal.TheVariants.{CounterAtEnd}
+use Rattle.refusal.specs.Refusal.{passes, check_number}
+use Rattle.party.proofs.Refusals.{Checked, every_check_ends}
+use Rattle.refusal.proofs.Checks.{Decided, decided}
+use Rattle.party.specs.Answer.{going_on, ends, refused}
 use Rattle.record.specs.declared.Record.{Record}
 use Rattle.party.specs.declared.Answer.TheVariants.{Pushed, Popped, Full, Empty}
 use Rattle.record.proofs.Stages.{ValidAt, valid_at}
-use Rattle.party.proofs.Refusals.{Checked, refusal_is_not_0}
 use Rattle.stages.specs.Stages.{near, own, at_place, at_near, access_of}
 use Rattle.stages.specs.Follow.{push_at_wall, pop_at_far, judge_of, recheck_of, won_of, swapped_of}
-use Rattle.step.specs.Step.{strip_fits, max_of, hint_fits, step_own, step_refusal}
+use Rattle.step.specs.Step.{max_of, step_refusal}
 use Rattle.stages.specs.declared.AfterSwap.{AfterSwap}
 use Rattle.stages.specs.declared.Access.TheVariants.{Swap}
 use Rattle.step.proofs.Cleared.{Steppable, steppable}
@@ -66,25 +68,17 @@ module _ (strip : List ℕ) (r : Record) (hint : ℕ) where
 
   -- refused by a check, or by a swap at its counter's end; or gone on
   pub data Went : Type 0 where
-    stays : (number : ℕ) → is_refusal number ≡ true → Gone strip r hint (refused number r) strip → Went
+    stays : (refusal : Refusal) → Gone strip r hint (refused refusal r) strip → Went
     goes : Steppable (length strip) r hint → GoneOn → Went
 
-pub step_checked : (words : ℕ) (r : Record) (hint : ℕ) → Checked (step_refusal words r hint)
-unfolding step_refusal step_own
-step_checked words r hint =
-    whichever Checked (not (strip_fits words)) (Checked.some refl)
-    (whichever Checked (not (valid_of (max_of words) r)) (Checked.some refl)
-    (whichever Checked (is_idle r) (Checked.some refl)
-    (whichever Checked (not (hint_fits (max_of words) r hint)) (Checked.some refl) (Checked.none refl))))
-
-module _ (strip : List ℕ) (r : Record) (hint : ℕ) (passes : step_refusal (length strip) r hint ≡ 0) where
+module _ (strip : List ℕ) (r : Record) (hint : ℕ) (none : step_refusal (length strip) r hint ≡ passes) where
   clear : Steppable (length strip) r hint
-  clear = steppable (length strip) r hint passes
+  clear = steppable (length strip) r hint none
 
   remembering : r.stage ≡ 1 → Went strip r hint
   remembering s =
       let at = with_place hint r in
-      goes clear (remembers s (when_looks strip r hint at passes (aimed_first r hint s) (near at) _ (at_near strip at) (stage_1 at s) refl))
+      goes clear (remembers s (when_looks strip r hint at none (aimed_first r hint s) (near at) _ (at_near strip at) (stage_1 at s) refl))
 
   judging : r.stage ≡ 2 → Went strip r hint
   unfolding judge_of
@@ -96,7 +90,7 @@ module _ (strip : List ℕ) (r : Record) (hint : ℕ) (passes : step_refusal (le
       word = at_place strip r
 
       looked : Gone strip r hint (judge_of (max_of (length strip)) r word) strip
-      looked = when_looks strip r hint r passes (aimed_later r hint (λ e. omega arith)) r.k _ word (stage_2 r s) refl
+      looked = when_looks strip r hint r none (aimed_later r hint (λ e. omega arith)) r.k _ word (stage_2 r s) refl
 
       right : eqb (value_of r.first) (own r) ≡ false → eqb (value_of word) (own r) ≡ true → NotMisled strip r
       right a b = record { first_other = eqb-false _ _ a; second_own = eqb-true _ _ b }
@@ -117,7 +111,7 @@ module _ (strip : List ℕ) (r : Record) (hint : ℕ) (passes : step_refusal (le
       word = at_near strip r
 
       looked : Gone strip r hint (recheck_of r word) strip
-      looked = when_looks strip r hint r passes (aimed_later r hint (λ e. omega arith)) (near r) _ word (stage_3 r s) refl
+      looked = when_looks strip r hint r none (aimed_later r hint (λ e. omega arith)) (near r) _ word (stage_3 r s) refl
 
       go : (same : Bool) → eqb word r.first ≡ same → Went strip r hint
       go true e = goes clear (empties s (eqb-true word r.first e) (simp e at looked))
@@ -137,13 +131,13 @@ module _ (strip : List ℕ) (r : Record) (hint : ℕ) (passes : step_refusal (le
 
       swapped : Swapping (swap_of met from)
       swapped =
-          when_swaps strip r hint r passes (aimed_later r hint later) place from to then (swap_of met from)
+          when_swaps strip r hint r none (aimed_later r hint later) place from to then (swap_of met from)
           (words_after (swap_of met from) strip place (raised_to from to)) access (record { answered = refl; words = refl })
 
       go : SwapGoes met from → Went strip r hint
       go (SwapGoes.won took e) = goes clear (won took (subst Swapping e swapped))
       go (SwapGoes.lost other e) = goes clear (loses place from to then access other (subst Swapping e swapped))
-      go (SwapGoes.stuck same ended e) = stays 9 refl (subst Swapping e swapped)
+      go (SwapGoes.stuck same ended e) = stays CounterAtEnd (subst Swapping e swapped)
 
   fourth : r.stage ≡ 4 → (push : Bool) → is_push r.operation ≡ push → Went strip r hint
   fourth s true p = swapping _ _ _ _ (λ e. omega arith) (stage_4_push r s p) (push_4 s p)
@@ -161,13 +155,13 @@ module _ (strip : List ℕ) (r : Record) (hint : ℕ) (passes : step_refusal (le
   by_stage (ValidAt.at4 s fits swap) = fourth s (is_push r.operation) refl
   by_stage (ValidAt.at5 s fits swap) = fifth s (is_push r.operation) refl
 
-pub went : (strip : List ℕ) (r : Record) (hint : ℕ) → Went strip r hint
-went strip r hint = go (step_checked (length strip) r hint)
-  where
-    number : ℕ
-    number = step_refusal (length strip) r hint
+pub step_checked : (words : ℕ) (r : Record) (hint : ℕ) → Checked (check_number (step_refusal words r hint))
+step_checked words r hint = every_check_ends (step_refusal words r hint)
 
-    go : Checked number → Went strip r hint
-    go (Checked.none passes) =
-        by_stage strip r hint passes (valid_at (max_of (length strip)) r (steppable (length strip) r hint passes).valid)
-    go (Checked.some refusal) = stays number refusal (when_refused strip r hint (refusal_is_not_0 number refusal))
+pub went : (strip : List ℕ) (r : Record) (hint : ℕ) → Went strip r hint
+went strip r hint = go (decided (step_refusal (length strip) r hint))
+  where
+    go : Decided (step_refusal (length strip) r hint) → Went strip r hint
+    go (Decided.none none) =
+        by_stage strip r hint none (valid_at (max_of (length strip)) r (steppable (length strip) r hint none).valid)
+    go (Decided.some refusal e) = stays refusal (when_refused strip r hint refusal e)

@@ -1,6 +1,9 @@
 -- The step: what it answers, the record it gives back and every word it leaves, refusals first, in document 01's order.
 use Rattle.std.specs.Prelude.{ℕ, ◌-◌, ◌≡◌, Bool, not, ◌&&◌, ◌||◌, List, length, get_or, eqb, leb}
+use Rattle.std.specs.declared.result.Result.TheVariants.{Err}
 use Rattle.logic.specs.Pick.{pick}
+use Rattle.refusal.specs.declared.Refusal.TheVariants.{WrongSize, NotValid, Idle, Outside}
+use Rattle.refusal.specs.Refusal.{Check, passes, if_passes}
 use Rattle.word.specs.Word.{raised_to}
 use Rattle.word.specs.Swap.{swap_of, words_after}
 use Rattle.record.specs.Operation.{in_range}
@@ -26,11 +29,13 @@ abbrev pub hint_fits : (max : ℕ) → Record → (hint : ℕ) → Bool
 hint_fits max r hint = not (eqb r.stage 1) || in_range max r.operation hint
 
 -- the record's own checks of a step: not valid, idle, hint
-unfoldable pub step_own : (max : ℕ) → Record → (hint : ℕ) → ℕ
-step_own max r hint = pick (not (valid_of max r)) 4 (pick (is_idle r) 6 (pick (not (hint_fits max r hint)) 8 0))
+unfoldable pub step_own : (max : ℕ) → Record → (hint : ℕ) → Check
+step_own max r hint =
+    pick (not (valid_of max r)) (Err NotValid)
+    (pick (is_idle r) (Err Idle) (pick (not (hint_fits max r hint)) (Err Outside) passes))
 
-unfoldable pub step_refusal : (words : ℕ) → Record → (hint : ℕ) → ℕ
-step_refusal words r hint = pick (not (strip_fits words)) 1 (step_own (max_of words) r hint)
+unfoldable pub step_refusal : (words : ℕ) → Record → (hint : ℕ) → Check
+step_refusal words r hint = pick (not (strip_fits words)) (Err WrongSize) (step_own (max_of words) r hint)
 
 -- stage 1 takes the hint as k
 abbrev pub aimed : Record → (hint : ℕ) → Record
@@ -51,7 +56,7 @@ step_of strip r hint =
 
 unfoldable pub step_leaves : List ℕ → Record → (hint : ℕ) → List ℕ
 step_leaves strip r hint =
-    pick (eqb (step_refusal (length strip) r hint) 0) (written strip (access_of (aimed r hint))) strip
+    if_passes (step_refusal (length strip) r hint) (written strip (access_of (aimed r hint))) strip
 
 -- What step promises: the answer, the record and every word of the strip it was lent.
 pub record StepPromise (strip : List ℕ) (r : Record) (hint : ℕ) (got : Answered) (left : List ℕ) : Type 0 where

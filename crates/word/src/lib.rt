@@ -5,8 +5,9 @@ ghost use Rattle.std.specs.Prelude.{◌≡◌, ◌<◌, length, get_or};
 ghost use Rattle.word.specs.Word.{value_of, counter_of, raised_to, last_counter};
 ghost use Rattle.word.specs.Swap.{swap_of, SwapPromise};
 
-// What a swap answers: won; lost, with the word it met; or it would win, but the counter is at its end.
-#[derive(Clone, Copy)]
+// What a swap answers: won; lost, with the word it met; or it would win, but the counter is at its end. No Result: a swap that is lost is
+// no error, the operation goes on.
+#[derive(Clone, Copy, Debug, PartialEq, Eq)]
 pub enum Swapped {
     Won,
     Lost(u64),
@@ -40,7 +41,7 @@ fn weigh(met: u64, from: u64) -> Swapped
     if met != from {
         return Swapped::Lost(met);
     }
-    if counter(from) == 4294967295 {
+    if counter(from) == u32::MAX {
         return Swapped::Stuck;
     }
     Swapped::Won
@@ -59,13 +60,9 @@ pub fn swap(strip: &mut [u64], place: usize, from: u64, to: u32) -> Swapped
     requires { place < length strip.old }
     ensures { SwapPromise strip.old place from to result strip.new }
 {
-    let met = strip[place];
-    match weigh(met, from) {
-        Swapped::Won => {
-            strip[place] = raised(from, to);
-            Swapped::Won
-        }
-        Swapped::Lost(seen) => Swapped::Lost(seen),
-        Swapped::Stuck => Swapped::Stuck,
+    let got = weigh(strip[place], from);
+    if let Swapped::Won = got {
+        strip[place] = raised(from, to);
     }
+    got
 }
