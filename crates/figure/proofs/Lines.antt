@@ -23,10 +23,11 @@ use Rattle.step.specs.Step.{max_of, step_refusal, step_of, step_leaves}
 use Rattle.stages.specs.declared.AfterSwap.{AfterSwap}
 use Rattle.stages.specs.declared.AfterSwap.TheVariants.{Onward, Push, Pop}
 use Rattle.record.proofs.Stages.{ValidAt, valid_at}
-use Rattle.party.proofs.Refusals.{Checked, refusal_is_not_0}
+use Rattle.party.proofs.Refusals.{every_refusal_is_one}
+use Rattle.refusal.specs.Refusal.{passes}
+use Rattle.refusal.proofs.Checks.{Decided, decided}
 use Rattle.step.proofs.Cleared.{steppable}
 use Rattle.step.proofs.Accesses.{when_refused}
-use Rattle.step.proofs.Went.{step_checked}
 use Rattle.figure.specs.Figure.{element, Next, leads, if_CAS}
 use Rattle.figure.specs.Reading.{element_of, elements, Reaches, Matches, IsTheLine}
 use Rattle.figure.proofs.Elements.{same_is_whole, element_at, element_raised, elements_set}
@@ -68,7 +69,7 @@ swapped_is_CAS strip place from to r then succeeds fails fits goes won lost =
 -- what is shown of each stage: a step that no check and no swap refuses is its line
 abbrev StepIsLine : List ℕ → (hint : ℕ) → Record → Type 0
 StepIsLine strip hint r =
-    step_refusal (length strip) r hint ≡ 0 → is_refusal (number_of (step_of strip r hint).answer) ≡ false → IsTheLine strip r hint
+    step_refusal (length strip) r hint ≡ passes → is_refusal (number_of (step_of strip r hint).answer) ≡ false → IsTheLine strip r hint
 
 module _ (strip : List ℕ) (hint : ℕ) (r : Record) where
   abbrev push : (stage : ℕ) → Record
@@ -173,18 +174,15 @@ module _ (strip : List ℕ) (r : Record) (hint : ℕ) (fits : r.v < 4294967296) 
 -- An order is 32 bits wide.
 pub each_step_is_the_figures_line : (strip : List ℕ) (r : Record) (hint : ℕ) → is_right r.operation ≡ true → r.v < 4294967296
     → is_refusal (number_of (step_of strip r hint).answer) ≡ false → IsTheLine strip r hint
-each_step_is_the_figures_line strip r hint right fits goes = go (step_checked (length strip) r hint) (eqb r.operation 0) refl
+each_step_is_the_figures_line strip r hint right fits goes = go (decided (step_refusal (length strip) r hint)) (eqb r.operation 0) refl
   where
-    number : ℕ
-    number = step_refusal (length strip) r hint
-
-    go : Checked number → (push : Bool) → eqb r.operation 0 ≡ push → IsTheLine strip r hint
-    go (Checked.none passes) true o =
-        let clear = steppable (length strip) r hint passes in
-        push_is_its_line strip r hint fits (eqb-true r.operation 0 o) clear.busy (valid_at _ r clear.valid) passes goes
-    go (Checked.none passes) false o =
-        let clear = steppable (length strip) r hint passes in
+    go : Decided (step_refusal (length strip) r hint) → (push : Bool) → eqb r.operation 0 ≡ push → IsTheLine strip r hint
+    go (Decided.none none) true o =
+        let clear = steppable (length strip) r hint none in
+        push_is_its_line strip r hint fits (eqb-true r.operation 0 o) clear.busy (valid_at _ r clear.valid) none goes
+    go (Decided.none none) false o =
+        let clear = steppable (length strip) r hint none in
         let is-1 : r.operation ≡ 1 = omega (arith, ltb-true r.operation 2 right, eqb-false r.operation 0 o) in
-        pop_is_its_line strip r hint fits is-1 clear.busy (valid_at _ r clear.valid) passes goes
-    go (Checked.some refused) push o =
-        absurd (true≢false (sym refused ∙ rw (when_refused strip r hint (refusal_is_not_0 number refused)).answered at goes))
+        pop_is_its_line strip r hint fits is-1 clear.busy (valid_at _ r clear.valid) none goes
+    go (Decided.some refusal e) push o =
+        absurd (true≢false (sym (every_refusal_is_one refusal) ∙ rw (when_refused strip r hint refusal e).answered at goes))

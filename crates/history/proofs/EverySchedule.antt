@@ -16,7 +16,7 @@ use Rattle.plain.specs.Plain.{Plain, fresh_plain}
 use Rattle.strip.specs.Shape.{StandsFor, Shaped}
 use Rattle.strip.specs.Lay.{fresh_strip}
 use Rattle.strip.specs.Measure.{measure_of}
-use Rattle.strip.specs.declared.Measured.TheVariants.{Shape}
+use Rattle.std.specs.declared.result.Result.TheVariants.{Ok}
 use Rattle.strip.proofs.Laying.{fresh_length, fresh_words}
 use Rattle.strip.proofs.Values.{fresh_stands_for}
 use Rattle.strip.proofs.MeasureShapes.{measure_gives_the_plain_strip}
@@ -41,7 +41,7 @@ module _ (strip : List ℕ) (p : Plain) (parties : ℕ) (calls : List Call) (len
 
   -- What measure then says are that plain strip's numbers.
   pub the_end_is_measured : (q : Plain) → StandsFor (end_from (begin strip parties) 0 calls).strip q
-      → measure_of (end_from (begin strip parties) 0 calls).strip ≡ Shape q.left (length q.orders) q.right
+      → measure_of (end_from (begin strip parties) 0 calls).strip ≡ Ok (record { left = q.left; orders = length q.orders; right = q.right })
   the_end_is_measured q stands-at-end =
       measure_gives_the_plain_strip (end_from (begin strip parties) 0 calls).strip q
       (rw (the_strip_stays_as_long (begin strip parties) 0 calls) length_fits) stands-at-end

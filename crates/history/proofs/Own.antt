@@ -1,15 +1,18 @@
 -- What a call makes of its own party's record. What is proved of parties goes by these cases, and by that the others' records stand.
 use Prim.Native.Nat.{ℕ, ◌<◌, ◌≤◌}
 use mathlib.Core.Path.{◌≡◌, refl, sym, ◌∙◌, ap}
-use mathlib.Core.Bool.{true, false}
+use mathlib.Core.Bool.{false}
 use mathlib.Core.List.{List}
 use lib.ListN.{length, get_or, set}
 use lib.Seq.{get_or-set_same}
 use borrow.Author.Tests.{eqb-false}
 use native.Mathlib.Omega.{arith}
 use Rattle.record.specs.Record.{idle, begun}
-use Rattle.party.specs.Answer.{is_refusal, number_of}
+use Rattle.party.specs.Answer.{number_of}
 use Rattle.record.specs.declared.Record.{Record}
+use Rattle.std.specs.declared.result.Result.{Result}
+use Rattle.refusal.specs.declared.Refusal.{Refusal}
+use Rattle.refusal.specs.Refusal.{refusal_number}
 use Rattle.party.specs.declared.Answer.{Answer}
 use Rattle.call.specs.Call.{Call, party_of, record_of}
 use Rattle.step.proofs.Stepped.{Stepped, stepped}
@@ -24,7 +27,7 @@ module _ (s : State) (entry : ℕ) (call : Call) where
   now = get_or (leaves s entry call).table (party_of call) idle
 
   pub data Own : Type 0 where
-    refused : is_refusal (number_in s call) ≡ true → now ≡ was → Own
+    refused : (refusal : Refusal) → number_in s call ≡ refusal_number refusal → now ≡ was → Own
     begins : (operation order : ℕ) → call ≡ Call.start (party_of call) operation order → party_of call < length s.table
         → number_in s call ≡ 0 → now ≡ begun operation order → Own
     withdrawn : is_step call ≡ false → number_in s call ≡ 0 → now ≡ idle → Own
@@ -35,16 +38,16 @@ module _ (s : State) (entry : ℕ) (call : Call) where
   unfolding leaves
   own = go (called s.strip s.table call)
     where
-      number_is : {answer : Answer} {words : List ℕ} {records : List Record} → Leaves s.strip s.table call answer words records
+      number_is : {answer : Result Answer Refusal} {words : List ℕ} {records : List Record} → Leaves s.strip s.table call answer words records
           → number_in s call ≡ number_of answer
       number_is left = ap number_of left.answered
 
-      set_is : {answer : Answer} {words : List ℕ} (party : ℕ) (r : Record) → party_of call ≡ party → party < length s.table
+      set_is : {answer : Result Answer Refusal} {words : List ℕ} (party : ℕ) (r : Record) → party_of call ≡ party → party < length s.table
           → Leaves s.strip s.table call answer words (set s.table party r) → now ≡ r
       set_is party r is known left = rw (left.table_is, is) (get_or-set_same s.table party r idle known)
 
       go : Called s.strip s.table call → Own
-      go (Called.refuses number refusal left) = refused (rw (number_is left) refusal) (rw left.table_is refl)
+      go (Called.refuses refusal left) = refused refusal (number_is left) (rw left.table_is refl)
       go (Called.starts party operation order is known clear left) =
           let at = ap party_of is in
           begins operation order (is ∙ ap (λ (p : ℕ). Call.start p operation order) (sym at)) (rw at known) (number_is left)

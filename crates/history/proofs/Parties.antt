@@ -12,9 +12,10 @@ use native.Mathlib.Omega.{arith}
 use Rattle.logic.specs.Pick.{pick}
 use Rattle.logic.proofs.Bools.{both, whichever}
 use Rattle.record.specs.Record.{idle, begun}
-use Rattle.party.specs.Answer.{is_refusal}
+use Rattle.refusal.specs.declared.Refusal.{Refusal}
+use Rattle.refusal.specs.Refusal.{refusal_number}
+use Rattle.refusal.proofs.Checks.{refusal_is_not_0}
 use Rattle.record.specs.declared.Record.{Record}
-use Rattle.party.proofs.Refusals.{refusal_is_not_0}
 use Rattle.call.specs.Call.{Call, party_of}
 use Rattle.call.proofs.Calls.{other_records_stand}
 use Rattle.step.proofs.Stepped.{Stepped}
@@ -80,7 +81,7 @@ module _ (s : State) (entry : ℕ) where
       is = look_is_a_step s call looks
 
       go : Own s entry call → party_of call < length s.table
-      go (Own.refused refusal same) = absurd (refusal_is_not_0 (number_in s call) refusal is.2)
+      go (Own.refused refusal numbered same) = absurd (refusal_is_not_0 refusal (sym numbered ∙ is.2))
       go (Own.begins operation order start known none begun-is) = known
       go (Own.withdrawn other none ended) = absurd (true≢false (sym (ap is_step is.1) ∙ other))
       go (Own.steps hint step known busy how) = known
@@ -120,13 +121,13 @@ module _ (s : State) (entry : ℕ) where
         (subst (λ (r : Record). 1 ≤ r.stage) e) (λ not-now. subst (λ (r : Record). 2 ≤ r.stage) e)
 
     -- a refused start asks nothing
-    asked_refused : (call : Call) → is_refusal (number_in s call) ≡ true → asked_then call ≡ asked
+    asked_refused : (call : Call) (refusal : Refusal) → number_in s call ≡ refusal_number refusal → asked_then call ≡ asked
     unfolding line_of
-    asked_refused (Call.start party operation order) refusal =
+    asked_refused (Call.start party operation order) refusal numbered =
         let number = number_in s (Call.start party operation order) in
-        rw (ne_eqb number 0 (refusal_is_not_0 number refusal)) refl
-    asked_refused (Call.step party hint) refusal = refl
-    asked_refused (Call.withdraw party) refusal = refl
+        rw (ne_eqb number 0 (λ none. refusal_is_not_0 refusal (sym numbered ∙ none))) refl
+    asked_refused (Call.step party hint) refusal numbered = refl
+    asked_refused (Call.withdraw party) refusal numbered = refl
 
     asked_elsewhere : (call : Call) (i : ℕ) → (i ≡ party_of call → ⊥)
         → get_or (asked_then call) i nothing_yet ≡ get_or asked i nothing_yet
@@ -144,8 +145,8 @@ module _ (s : State) (entry : ℕ) where
 
     own_after : (call : Call) → length asked ≡ length s.table → Own s entry call → The call (party_of call)
     unfolding line_of
-    own_after call size (Own.refused refusal same) =
-        unchanged call (party_of call) (ap (λ (l : List Asked). get_or l (party_of call) nothing_yet) (asked_refused call refusal)) same
+    own_after call size (Own.refused refusal numbered same) =
+        unchanged call (party_of call) (ap (λ (l : List Asked). get_or l (party_of call) nothing_yet) (asked_refused call refusal numbered)) same
     own_after call size (Own.begins operation order is known none begun-is) =
         begins operation order is begun-is (rw is (rw (rw is at none) (get_or-set_same asked (party_of call) _ nothing_yet (rw size known))))
     own_after call size (Own.withdrawn other none ended) = idles ended

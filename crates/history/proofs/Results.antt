@@ -9,8 +9,9 @@ use borrow.Author.Tests.{leb-true}
 use native.Mathlib.Omega.{arith}
 use Rattle.logic.proofs.Bools.{both}
 use Rattle.record.specs.Record.{idle}
-use Rattle.party.specs.Answer.{is_refusal}
-use Rattle.party.proofs.Refusals.{refusal_is_small}
+use Rattle.refusal.specs.declared.Refusal.{Refusal}
+use Rattle.refusal.specs.Refusal.{refusal_number}
+use Rattle.refusal.proofs.Checks.{refusal_is_small}
 use Rattle.call.specs.Call.{Call, party_of, record_of}
 use Rattle.step.proofs.Stepped.{Stepped}
 use Rattle.history.specs.Run.{State, leaves, number_in}
@@ -28,9 +29,9 @@ pub looked_before : (s : State) (entry : ℕ) (call : Call) → Ended s entry ca
 looked_before s entry call ended (inl full) = let at = ended.full_at full in omega arith
 looked_before s entry call ended (inr empty) = let at = ended.empty_at empty in omega arith
 
-refusal_is_no_result : (number : ℕ) → is_refusal number ≡ true → is_result number ≡ true → ⊥
-refusal_is_no_result number refusal result =
-    omega (arith, refusal_is_small number refusal, leb-true 16 number (both (leb 16 number) (leb number 19) result).0)
+refusal_is_no_result : (number : ℕ) (refusal : Refusal) → number ≡ refusal_number refusal → is_result number ≡ true → ⊥
+refusal_is_no_result number refusal numbered result =
+    omega (arith, refusal_is_small refusal, leb-true 16 number (both (leb 16 number) (leb number 19) result).0)
 
 pub a_result_ends : (s : State) (entry : ℕ) (call : Call) → is_result (number_in s call) ≡ true → Ended s entry call
 a_result_ends s entry call result = go (own s entry call)
@@ -46,7 +47,7 @@ a_result_ends s entry call result = go (own s entry call)
     ended busy idles full empty = record { busy = busy; leaves_idle = idles; full_at = full; empty_at = empty }
 
     go : Own s entry call → Ended s entry call
-    go (Own.refused refusal same) = absurd (refusal_is_no_result number refusal result)
+    go (Own.refused refusal numbered same) = absurd (refusal_is_no_result number refusal numbered result)
     go (Own.begins operation order is known none begun-is) = absurd (none_is_no_result none)
     go (Own.withdrawn other none idles) = absurd (none_is_no_result none)
     go (Own.steps hint is known busy (Stepped.going_on none operation v to-2 to-3)) = absurd (none_is_no_result none)

@@ -11,6 +11,7 @@ use Rattle.logic.proofs.Bools.{both}
 use Rattle.record.specs.Record.{idle}
 use Rattle.party.specs.Answer.{is_refusal}
 use Rattle.record.specs.declared.Record.{Record}
+use Rattle.party.proofs.Refusals.{every_refusal_is_one}
 use Rattle.call.specs.Call.{Call, party_of}
 use Rattle.step.proofs.Stepped.{Stepped}
 use Rattle.history.specs.Run.{State, leaves, looked, number_in, looks_now}
@@ -56,7 +57,7 @@ module _ (s : State) (entry : ℕ) where
 
   own_since : (call : Call) → Own s entry call → Early (record_then call (party_of call))
       → Since s call (party_of call) (record_at (party_of call)) (record_then call (party_of call))
-  own_since call (Own.refused refusal same) early = still same (λ mine. refusal)
+  own_since call (Own.refused refusal numbered same) early = still same (λ mine. rw numbered (every_refusal_is_one refusal))
   own_since call (Own.begins operation order is known none begun-is) early = absurd (too_early begun-is (omega arith) early)
   own_since call (Own.withdrawn other none ended) early = absurd (too_early ended (omega arith) early)
   own_since call (Own.steps hint is known busy (Stepped.going_on none operation v to-2 to-3)) early =

@@ -10,8 +10,10 @@ use native.Mathlib.Omega.{arith}
 use Rattle.record.specs.Record.{idle}
 use Rattle.party.specs.Answer.{number_of}
 use Rattle.record.specs.declared.Record.{Record}
+use Rattle.std.specs.declared.result.Result.{Result}
+use Rattle.refusal.specs.declared.Refusal.{Refusal}
+use Rattle.refusal.proofs.Checks.{refusal_is_small}
 use Rattle.party.specs.declared.Answer.{Answer}
-use Rattle.party.proofs.Refusals.{refusal_is_small}
 use Rattle.step.specs.Step.{strip_fits}
 use Rattle.call.specs.Call.{Call, call_of}
 use Rattle.plain.specs.Plain.{Plain}
@@ -42,13 +44,13 @@ pub call_effect : (strip : List ℕ) (table : List Record) (call : Call) (p : Pl
     → StandsFor strip p → CallEffect strip table call p
 call_effect strip table call p fits sane stands = go (called strip table call)
   where
-    number_is : {answer : Answer} {words : List ℕ} {records : List Record} → Leaves strip table call answer words records
+    number_is : {answer : Result Answer Refusal} {words : List ℕ} {records : List Record} → Leaves strip table call answer words records
         → number_of (call_of strip table call).answer ≡ number_of answer
     number_is left = ap number_of left.answered
 
     go : Called strip table call → CallEffect strip table call p
-    go (Called.refuses number refusal left) =
-        let small = refusal_is_small number refusal in
+    go (Called.refuses refusal left) =
+        let small = refusal_is_small refusal in
         CallEffect.quiet (rw (number_is left) (omega arith)) (rw left.strip_is stands)
     go (Called.starts party operation order is known clear left) =
         CallEffect.quiet (rw (number_is left) (omega arith)) (rw left.strip_is stands)

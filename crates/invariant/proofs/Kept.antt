@@ -7,6 +7,8 @@ use lib.ListN.{length}
 use native.Mathlib.Omega.{arith}
 use Rattle.record.specs.Record.{begun}
 use Rattle.record.specs.declared.Record.{Record}
+use Rattle.std.specs.declared.result.Result.{Result}
+use Rattle.refusal.specs.declared.Refusal.{Refusal}
 use Rattle.party.specs.declared.Answer.{Answer}
 use Rattle.party.proofs.Kept.{begun_is_valid}
 use Rattle.step.specs.Step.{strip_fits, max_of}
@@ -19,7 +21,7 @@ use Rattle.call.proofs.Called.{Leaves, Called, called}
 
 module _ (strip : List ℕ) (table : List Record) (call : Call) where
   -- what a call leaves is sane if what it went to is
-  leaves_sane : {answer : Answer} {words : List ℕ} {records : List Record} → Leaves strip table call answer words records
+  leaves_sane : {answer : Result Answer Refusal} {words : List ℕ} {records : List Record} → Leaves strip table call answer words records
       → Sane words records → Sane (call_of strip table call).strip (call_of strip table call).table
   leaves_sane left done = rw (left.strip_is, left.table_is) done
 
@@ -28,7 +30,7 @@ module _ (strip : List ℕ) (table : List Record) (call : Call) where
   sane_kept fits fitting sane = go (called strip table call)
     where
       go : Called strip table call → Sane (call_of strip table call).strip (call_of strip table call).table
-      go (Called.refuses number refusal left) = leaves_sane left sane
+      go (Called.refuses refusal left) = leaves_sane left sane
       go (Called.starts party operation order is known clear left) =
           let small = subst Fitting is fitting in
           let valid = begun_is_valid (max_of (length strip)) operation order (omega (arith, clear.known)) clear.ordered in

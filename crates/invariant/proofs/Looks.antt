@@ -12,6 +12,7 @@ use Rattle.word.specs.Word.{value_of, value_at}
 use Rattle.record.specs.Operation.{is_push, wall}
 use Rattle.record.specs.Record.{idle}
 use Rattle.record.specs.Valid.{place_fits, at_wall}
+use Rattle.std.specs.declared.result.Result.TheVariants.{Ok}
 use Rattle.party.specs.Answer.{going_on}
 use Rattle.record.specs.declared.Record.{Record}
 use Rattle.party.specs.declared.Answered.{Answered}
@@ -82,7 +83,7 @@ module _ (strip : List ℕ) (p : Plain) (fits : strip_fits (length strip) ≡ tr
 -- A step that goes on from stage 1 or 2 remembers the plain strip of now; after any other that was not refused there is nothing
 -- to remember.
 pub data StepLooks (strip : List ℕ) (r : Record) (hint : ℕ) (p : Plain) : Type 0 where
-  looks : (r.stage ≡ 1) ⊎ (r.stage ≡ 2) → (step_of strip r hint).answer ≡ GoesOn
+  looks : (r.stage ≡ 1) ⊎ (r.stage ≡ 2) → (step_of strip r hint).answer ≡ Ok GoesOn
       → Remembers (step_leaves strip r hint) (step_of strip r hint).rec p → StepLooks strip r hint p
   forgets : ((then : Plain) → Remembers (step_leaves strip r hint) (step_of strip r hint).rec then) → StepLooks strip r hint p
 

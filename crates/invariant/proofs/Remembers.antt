@@ -12,8 +12,10 @@ use Rattle.word.specs.Word.{raised_to}
 use Rattle.record.specs.Record.{idle, begun}
 use Rattle.party.specs.Answer.{number_of}
 use Rattle.record.specs.declared.Record.{Record}
+use Rattle.std.specs.declared.result.Result.{Result}
+use Rattle.refusal.specs.declared.Refusal.{Refusal}
+use Rattle.refusal.proofs.Checks.{refusal_is_not_0}
 use Rattle.party.specs.declared.Answer.{Answer}
-use Rattle.party.proofs.Refusals.{refusal_is_not_0}
 use Rattle.stages.specs.Stages.{near}
 use Rattle.stages.specs.Follow.{push_at_wall}
 use Rattle.step.specs.Step.{strip_fits, max_of, step_of, step_leaves}
@@ -50,7 +52,7 @@ module _ (strip : List ℕ) (table : List Record) (call : Call) (p : Plain) (fit
   abbrev left_record : ℕ → Record
   left_record i = get_or (call_of strip table call).table i idle
 
-  leaves_remembers : {answer : Answer} {words : List ℕ} {records : List Record} (i : ℕ) (then : Plain)
+  leaves_remembers : {answer : Result Answer Refusal} {words : List ℕ} {records : List Record} (i : ℕ) (then : Plain)
       → Leaves strip table call answer words records → Remembers words (get_or records i idle) then
       → Remembers left_strip (left_record i) then
   leaves_remembers i then left known = rw (left.strip_is, left.table_is) known
@@ -61,9 +63,7 @@ module _ (strip : List ℕ) (table : List Record) (call : Call) (p : Plain) (fit
   look_remembers party hint is zero = go (called strip table call)
     where
       go : Called strip table call → Remembers left_strip (left_record party) p
-      go (Called.refuses number refusal left) =
-          let none : number ≡ 0 = sym (ap number_of left.answered) ∙ zero in
-          absurd (refusal_is_not_0 number refusal none)
+      go (Called.refuses refusal left) = absurd (refusal_is_not_0 refusal (sym (ap number_of left.answered) ∙ zero))
       go (Called.starts party' operation order is' known clear left) = let z : ◌≡◌ {A = ℕ} 0 1 = cc in absurd (omega arith)
       go (Called.withdraws party' is' known left) = let z : ◌≡◌ {A = ℕ} 0 1 = cc in absurd (omega arith)
       go (Called.steps party' hint' is' known clear on left) =
@@ -86,7 +86,7 @@ module _ (strip : List ℕ) (table : List Record) (call : Call) (p : Plain) (fit
   remembers_kept i then within other knows = go (called strip table call)
     where
       go : Called strip table call → Remembers left_strip (left_record i) then
-      go (Called.refuses number refusal left) = leaves_remembers i then left knows
+      go (Called.refuses refusal left) = leaves_remembers i then left knows
       go (Called.starts party operation order is known clear left) =
           leaves_remembers i then left
           (at_set (λ r. Remembers strip r then) idle table party i (begun operation order)

@@ -17,6 +17,9 @@ use Rattle.record.specs.Operation.{is_push}
 use Rattle.record.specs.Valid.{place_fits, at_wall}
 use Rattle.party.specs.Answer.{number_of, going_on, ends}
 use Rattle.record.specs.declared.Record.{Record}
+use Rattle.std.specs.declared.result.Result.{Result}
+use Rattle.refusal.specs.declared.Refusal.{Refusal}
+use Rattle.std.specs.declared.result.Result.TheVariants.{Ok}
 use Rattle.party.specs.declared.Answer.{Answer}
 use Rattle.party.specs.declared.Answered.{Answered}
 use Rattle.party.specs.declared.Answer.TheVariants.{GoesOn, Pushed, Popped, Full, Empty}
@@ -37,10 +40,10 @@ use Rattle.invariant.proofs.Acts.{pushed_stands, popped_stands}
 
 module _ (strip : List ℕ) (r : Record) (hint : ℕ) (p : Plain) where
   pub data StepEffect : Type 0 where
-    quiet : (step_of strip r hint).answer ≡ GoesOn → StandsFor (step_leaves strip r hint) p → StepEffect
-    acts : (answer : Answer) → (step_of strip r hint).answer ≡ answer → (number_of answer ≡ 16) ⊎ (number_of answer ≡ 17) → (q : Plain)
+    quiet : (step_of strip r hint).answer ≡ Ok GoesOn → StandsFor (step_leaves strip r hint) p → StepEffect
+    acts : (answer : Result Answer Refusal) → (step_of strip r hint).answer ≡ answer → (number_of answer ≡ 16) ⊎ (number_of answer ≡ 17) → (q : Plain)
         → RecordYields r p answer q → StandsFor (step_leaves strip r hint) q → StepEffect
-    recalls : (answer : Answer) → (step_of strip r hint).answer ≡ answer → (number_of answer ≡ 18) ⊎ (number_of answer ≡ 19)
+    recalls : (answer : Result Answer Refusal) → (step_of strip r hint).answer ≡ answer → (number_of answer ≡ 18) ⊎ (number_of answer ≡ 19)
         → step_leaves strip r hint ≡ strip → ((then : Plain) → Remembers strip r then → RecordYields r then answer then) → StepEffect
 
 module _ (strip : List ℕ) (r : Record) (hint : ℕ) (p : Plain) (fits : strip_fits (length strip) ≡ true) (sound : Sound strip r)
@@ -79,7 +82,7 @@ module _ (strip : List ℕ) (r : Record) (hint : ℕ) (p : Plain) (fits : strip_
       let some = room_off_wall strip p r fits stands end (off_wall s push) in
       let order = order_is (max_of (length strip)) r sound.valid (omega arith) push in
       let value = raised_value r.second r.v sound.order_fits in
-      StepEffect.acts Pushed (answer_is gone) (inl refl) (added r.operation r.v p) (yields_pushed r.operation r.v p push some)
+      StepEffect.acts (Ok Pushed) (answer_is gone) (inl refl) (added r.operation r.v p) (yields_pushed r.operation r.v p push some)
       (rw gone.words (pushed_stands strip p r stands end _ value order some))
 
   pops : r.stage ≡ 5 → is_push r.operation ≡ false → at_near strip r ≡ r.first
@@ -93,7 +96,7 @@ module _ (strip : List ℕ) (r : Record) (hint : ℕ) (p : Plain) (fits : strip_
       let some = held_off_far strip p r fits stands end not-far in
       let value = raised_value r.first (own r) (omega (arith, own_is_null r)) in
       let order = sym (end_order_is strip p r fits stands end some) ∙ first in
-      StepEffect.acts (Popped (value_of r.first)) (answer_is gone) (inr refl) (removed r.operation p)
+      StepEffect.acts (Ok (Popped (value_of r.first))) (answer_is gone) (inr refl) (removed r.operation p)
       (subst (λ (v : ℕ). Yields r.operation r.v p 17 v (removed r.operation p)) order
       (yields_popped r.operation r.v p pop some))
       (rw gone.words (popped_stands strip p r stands end _ value some))
@@ -102,14 +105,14 @@ module _ (strip : List ℕ) (r : Record) (hint : ℕ) (p : Plain) (fits : strip_
   step_effect (GoneOn.remembers s gone) = same gone
   step_effect (GoneOn.drops s d gone) = same gone
   step_effect (GoneOn.fills s d w gone) =
-      StepEffect.recalls Full (answer_is gone) (inl refl) gone.words
+      StepEffect.recalls (Ok Full) (answer_is gone) (inl refl) gone.words
       (λ then known. yields_full r.operation r.v then (both (is_push r.operation) _ w).0 (known.full_then s w d.first_other))
   step_effect (GoneOn.doubts s d f gone) = same gone
   step_effect (GoneOn.readies s d w f gone) = same gone
   step_effect (GoneOn.empties s e gone) =
       let fits-3 = (stage_3_fits (max_of (length strip)) r sound.valid s).1 in
       let pop = not-true (is_push r.operation) (both (place_fits (max_of (length strip)) r) (not (is_push r.operation)) fits-3).1 in
-      StepEffect.recalls Empty (answer_is gone) (inr refl) gone.words
+      StepEffect.recalls (Ok Empty) (answer_is gone) (inr refl) gone.words
       (λ then known. yields_empty r.operation r.v then pop (known.empty_then s e))
   step_effect (GoneOn.rechecks s e gone) = same gone
   step_effect (GoneOn.push_4 s push t gone) =

@@ -68,7 +68,7 @@ module _ (strip : List ℕ) (table : List Record) (call : Call) where
   call_writes = go (called strip table call)
     where
       go : Called strip table call → Written strip (record_of table call).v (call_of strip table call).strip
-      go (Called.refuses number refusal left) = Written.nothing left.strip_is
+      go (Called.refuses refusal left) = Written.nothing left.strip_is
       go (Called.starts party operation order is known clear left) = Written.nothing left.strip_is
       go (Called.withdraws party is known left) = Written.nothing left.strip_is
       go (Called.steps party hint is known clear on left) =
@@ -86,7 +86,7 @@ module _ (strip : List ℕ) (table : List Record) (call : Call) where
   no_counter_comes_round sane words = go (called strip table call)
     where
       go : Called strip table call → Every IsWord 0 (call_of strip table call).strip
-      go (Called.refuses number refusal left) = rw left.strip_is words
+      go (Called.refuses refusal left) = rw left.strip_is words
       go (Called.starts party operation order is known clear left) = rw left.strip_is words
       go (Called.withdraws party is known left) = rw left.strip_is words
       go (Called.steps party hint is known clear on left) =

@@ -4,6 +4,8 @@ use Rattle.std.specs.Prelude.{ℕ, ◌≡◌, true, List, length}
 use Rattle.word.specs.Word.{value_of}
 use Rattle.party.specs.Answer.{number_of, carried_of}
 use Rattle.record.specs.declared.Record.{Record}
+use Rattle.std.specs.declared.result.Result.{Result}
+use Rattle.refusal.specs.declared.Refusal.{Refusal}
 use Rattle.party.specs.declared.Answer.{Answer}
 use Rattle.plain.specs.Plain.{Plain}
 use Rattle.plain.specs.Play.{room, Yields}
@@ -19,5 +21,5 @@ pub record Remembers (strip : List ℕ) (r : Record) (then : Plain) : Type 0 whe
   pub empty_then : r.stage ≡ 3 → FreshFirst strip r → length then.orders ≡ 0
 
 -- the record's operation, played on the plain strip p, gives this answer and leaves q
-abbrev pub RecordYields : Record → Plain → Answer → Plain → Type 0
+abbrev pub RecordYields : Record → Plain → Result Answer Refusal → Plain → Type 0
 RecordYields r p answer q = Yields r.operation r.v p (number_of answer) (carried_of answer) q

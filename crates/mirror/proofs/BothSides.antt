@@ -7,12 +7,16 @@ use mathlib.Core.Logic.{◌⊎◌, inl, inr}
 use lib.ListN.{length}
 use borrow.Author.Tests.{eqb-false, le-leb}
 use native.Mathlib.Omega.{arith}
+use Rattle.std.specs.declared.result.Result.{Result}
+use Rattle.std.specs.declared.result.Result.TheVariants.{Ok, Err}
+use Rattle.refusal.specs.declared.Refusal.{Refusal}
 use Rattle.record.specs.Operation.{is_right}
+use Rattle.party.proofs.Refusals.{every_refusal_is_one}
 use Rattle.record.specs.Valid.{is_idle}
 use Rattle.party.specs.Answer.{is_refusal, number_of}
 use Rattle.record.specs.declared.Record.{Record}
 use Rattle.party.specs.declared.Answer.{Answer}
-use Rattle.party.specs.declared.Answer.TheVariants.{GoesOn, Pushed, Popped, Full, Empty, Refused}
+use Rattle.party.specs.declared.Answer.TheVariants.{GoesOn, Pushed, Popped, Full, Empty}
 use Rattle.step.specs.Step.{max_of, step_of}
 use Rattle.step.proofs.Went.{Went, went}
 use Rattle.figure.specs.Reading.{IsTheLine}
@@ -21,13 +25,13 @@ use Rattle.mirror.specs.Mirror.{mirror_strip, mirror_place, mirror_operation, mi
 use Rattle.mirror.proofs.Strips.{length_mirror}
 use Rattle.mirror.proofs.Left.{a_left_step_is_the_mirrored_right_step}
 
-same_number : (answer : Answer) → number_of (mirror_answer answer) ≡ number_of answer
-same_number GoesOn = refl
-same_number Pushed = refl
-same_number (Popped order) = refl
-same_number Full = refl
-same_number Empty = refl
-same_number (Refused number) = refl
+same_number : (answer : Result Answer Refusal) → number_of (mirror_answer answer) ≡ number_of answer
+same_number (Ok GoesOn) = refl
+same_number (Ok Pushed) = refl
+same_number (Ok (Popped order)) = refl
+same_number (Ok Full) = refl
+same_number (Ok Empty) = refl
+same_number (Err refusal) = refl
 
 -- a left record that is busy mirrors to the right
 to_the_right : (max : ℕ) (r : Record) → (r.operation ≡ 2) ⊎ (r.operation ≡ 3) → is_idle r ≡ false → is_right (mirror_record max r).operation ≡ true
@@ -42,7 +46,7 @@ busy_goes : (strip : List ℕ) (r : Record) (hint : ℕ) → is_refusal (number_
 busy_goes strip r hint goes = go (went strip r hint)
   where
     go : Went strip r hint → is_idle r ≡ false
-    go (Went.stays number refusal gone) = absurd (true≢false (sym refusal ∙ rw gone.answered at goes))
+    go (Went.stays refusal gone) = absurd (true≢false (sym (every_refusal_is_one refusal) ∙ rw gone.answered at goes))
     go (Went.goes clear on) = clear.busy
 
 -- Demand 2 for the left: a left step that is not refused is, in the mirror, the line of figure 1 that its record stands before.

@@ -6,7 +6,7 @@ use mathlib.Core.List.{List}
 use mathlib.Core.Logic.{◌⊎◌, inl, inr}
 use lib.ListN.{length, get_or}
 use lib.Dec.{eqb, leb}
-use borrow.Author.Tests.{eqb-true, leb-true}
+use borrow.Author.Tests.{leb-true}
 use native.Mathlib.Omega.{arith}
 use Rattle.logic.specs.Pick.{pick}
 use Rattle.logic.proofs.Bools.{both}
@@ -14,7 +14,10 @@ use Rattle.word.specs.Word.{value_of, counter_of, raised_to, last_counter, LN, R
 use Rattle.word.specs.Swap.{swap_of, words_after}
 use Rattle.record.specs.Record.{again, at_stage, with_operation}
 use Rattle.record.specs.Valid.{place_fits}
-use Rattle.party.specs.Answer.{going_on, ends, refused}
+use Rattle.std.specs.declared.result.Result.TheVariants.{Ok, Err}
+use Rattle.refusal.specs.declared.Refusal.TheVariants.{CounterAtEnd}
+use Rattle.refusal.specs.Refusal.{Check, if_passes}
+use Rattle.party.specs.Answer.{going_on, ends, refused, unless}
 use Rattle.record.specs.declared.Record.{Record}
 use Rattle.party.specs.declared.Answered.{Answered}
 use Rattle.party.specs.declared.Answer.TheVariants.{Popped}
@@ -56,11 +59,8 @@ step_mirrors : (strip : List ℕ) (r : Record) (hint : ℕ)
     → step_refusal (length strip) (mirror_record (max_of (length strip)) r) (mirror_place (max_of (length strip)) hint) ≡ step_refusal (length strip) r hint
     → (Steppable (length strip) r hint → AccessMirrors strip r hint) → StepMirrors strip r hint
 unfolding step_of step_leaves
-step_mirrors strip r hint alike access = rw (length_mirror strip, alike) (go (eqb number 0) refl)
+step_mirrors strip r hint alike access = rw (length_mirror strip, alike) (go (step_refusal (length strip) r hint) refl)
   where
-    number : ℕ
-    number = step_refusal (length strip) r hint
-
     max : ℕ
     max = max_of (length strip)
 
@@ -73,12 +73,12 @@ step_mirrors strip r hint alike access = rw (length_mirror strip, alike) (go (eq
     at' : Record
     at' = aimed r' (mirror_place max hint)
 
-    go : (none : Bool) → eqb number 0 ≡ none
-        → Mirrors max (pick none (followed strip at (access_of at)) (refused number r)) (pick none (written strip (access_of at)) strip)
-        (pick none (followed (mirror_strip strip) at' (access_of at')) (refused number r'))
-        (pick none (written (mirror_strip strip) (access_of at')) (mirror_strip strip))
-    go true e = access (steppable (length strip) r hint (eqb-true number 0 e))
-    go false e = mirrored
+    go : (check : Check) → step_refusal (length strip) r hint ≡ check
+        → Mirrors max (unless check r (followed strip at (access_of at))) (if_passes check (written strip (access_of at)) strip)
+        (unless check r' (followed (mirror_strip strip) at' (access_of at')))
+        (if_passes check (written (mirror_strip strip) (access_of at')) (mirror_strip strip))
+    go (Ok passed) e = access (steppable (length strip) r hint e)
+    go (Err refusal) e = mirrored
 
 -- a swap on the mirrored strip goes as the swap does
 swap_mirrors : (strip : List ℕ) (i j from to to' : ℕ) (r r' : Record) (then : AfterSwap) → i + j + 1 ≡ length strip
@@ -102,7 +102,7 @@ swap_mirrors strip i j from to to' r r' then across raised won same lost =
         → Mirrors (max_of (length strip)) (swapped_of r then (goes whole ended met)) (words_after (goes whole ended met) strip i (raised_to from to))
         (swapped_of r' then (goes whole ended (mirror_word met)))
         (words_after (goes whole ended (mirror_word met)) (mirror_strip strip) j (mirror_word (raised_to from to)))
-    go true true = record { answered = ap (refused 9) same; words = refl }
+    go true true = record { answered = ap (refused CounterAtEnd) same; words = refl }
     go true false = record { answered = won.answered; words = mirror_set strip i j (raised_to from to) across }
     go false ended = record { answered = ap going_on lost; words = refl }
 

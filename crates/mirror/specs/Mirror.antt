@@ -1,11 +1,14 @@
 -- The mirror: left and right exchanged.
 use Rattle.std.specs.Prelude.{ℕ, ◌+◌, ◌-◌, ◌≡◌, List, map, reverse, length, eqb, leb, ltb}
+use Rattle.std.specs.declared.result.Result.{Result}
+use Rattle.std.specs.declared.result.Result.TheVariants.{Ok, Err}
+use Rattle.refusal.specs.declared.Refusal.{Refusal}
 use Rattle.logic.specs.Pick.{pick}
 use Rattle.word.specs.Word.{value_of, counter_of, word_of, LN, RN}
 use Rattle.record.specs.Record.{with_operation, with_place, with_first, with_second}
 use Rattle.record.specs.declared.Record.{Record}
 use Rattle.party.specs.declared.Answer.{Answer}
-use Rattle.party.specs.declared.Answer.TheVariants.{GoesOn, Pushed, Popped, Full, Empty, Refused}
+use Rattle.party.specs.declared.Answer.TheVariants.{GoesOn, Pushed, Popped, Full, Empty}
 use Rattle.party.specs.declared.Answered.{Answered}
 use Rattle.step.specs.Step.{max_of, step_of, step_leaves}
 use Rattle.figure.specs.Figure.{run}
@@ -39,13 +42,13 @@ mirror_record max r =
     (with_first (pick (leb 2 r.stage) (mirror_word r.first) r.first)
     (with_second (pick (leb 3 r.stage) (mirror_word r.second) r.second) r)))
 
-abbrev pub mirror_answer : Answer → Answer
-mirror_answer GoesOn = GoesOn
-mirror_answer Pushed = Pushed
-mirror_answer (Popped order) = Popped (mirror_value order)
-mirror_answer Full = Full
-mirror_answer Empty = Empty
-mirror_answer (Refused number) = Refused number
+abbrev pub mirror_answer : Result Answer Refusal → Result Answer Refusal
+mirror_answer (Ok GoesOn) = Ok GoesOn
+mirror_answer (Ok Pushed) = Ok Pushed
+mirror_answer (Ok (Popped order)) = Ok (Popped (mirror_value order))
+mirror_answer (Ok Full) = Ok Full
+mirror_answer (Ok Empty) = Ok Empty
+mirror_answer (Err refusal) = Err refusal
 
 -- what a call gives: the answer and the record
 abbrev pub mirror_answered : (max : ℕ) → Answered → Answered

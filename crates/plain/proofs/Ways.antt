@@ -6,6 +6,7 @@ use lib.ListN.{length}
 use lib.Dec.{eqb}
 use borrow.Author.Tests.{eqb-true, eqb-false, eq-eqb, ne_eqb}
 use native.Mathlib.Omega.{arith}
+use Rattle.std.specs.declared.result.Result.TheVariants.{Ok}
 use Rattle.record.specs.Operation.{is_push}
 use Rattle.party.specs.Answer.{number_of, carried_of}
 use Rattle.party.specs.declared.Answer.{Answer}
@@ -26,7 +27,7 @@ module _ (operation order : ℕ) (p : Plain) where
   way {number} {carried} {q} y = go (is_push operation) refl
     where
       Of : Played → Type 0
-      Of done = Way (number_of done.answer) (carried_of done.answer) done.plain
+      Of done = Way (number_of (Ok done.answer)) (carried_of (Ok done.answer)) done.plain
 
       pushing : is_push operation ≡ true → (walled : Bool) → eqb (room operation p) 0 ≡ walled → Of (play_push operation order p)
       pushing e true w = rw w (full e (eqb-true (room operation p) 0 w) refl refl)
@@ -46,11 +47,11 @@ module _ (operation order : ℕ) (p : Plain) where
 
   -- and the other way: which of the four it is
   plays : (answer : Answer) {q : Plain} → play operation order p ≡ record { answer = answer; plain = q }
-      → Yields operation order p (number_of answer) (carried_of answer) q
+      → Yields operation order p (number_of (Ok answer)) (carried_of (Ok answer)) q
   plays answer e =
       record {
-        number_is = ap (λ (done : Played). number_of done.answer) e;
-        carried_is = ap (λ (done : Played). carried_of done.answer) e;
+        number_is = ap (λ (done : Played). number_of (Ok done.answer)) e;
+        carried_is = ap (λ (done : Played). carried_of (Ok done.answer)) e;
         leaves = ap (λ (done : Played). done.plain) e;
       }
 

@@ -1,5 +1,6 @@
 -- The four operations on a plain strip: what each answers and leaves.
 use Rattle.std.specs.Prelude.{ℕ, ◌+◌, ◌-◌, ◌≡◌, [], ◌∷◌, ◌++◌, length, get_or, take, drop, eqb}
+use Rattle.std.specs.declared.result.Result.TheVariants.{Ok}
 use Rattle.logic.specs.Pick.{pick}
 use Rattle.record.specs.Operation.{is_right, is_push}
 use Rattle.party.specs.Answer.{number_of, carried_of}
@@ -48,6 +49,6 @@ play operation order p = pick (is_push operation) (play_push operation order p) 
 
 -- an operation, played on p, gives this number and carried order and leaves q
 pub record Yields (operation order : ℕ) (p : Plain) (number carried : ℕ) (q : Plain) : Type 0 where
-  pub number_is : number_of (play operation order p).answer ≡ number
-  pub carried_is : carried_of (play operation order p).answer ≡ carried
+  pub number_is : number_of (Ok (play operation order p).answer) ≡ number
+  pub carried_is : carried_of (Ok (play operation order p).answer) ≡ carried
   pub leaves : (play operation order p).plain ≡ q
