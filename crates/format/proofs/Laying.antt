@@ -1,4 +1,4 @@
--- A fresh image, part by part: the header, the zeros one by one, the words of RN one by one.
+-- A fresh image, part by part: the header, the zeros, the words of RN one by one.
 use Prim.Native.Nat.{ℕ, zero, suc, ◌+◌, ◌-◌, ◌*◌, ◌≤◌, ◌<◌}
 use mathlib.Core.Path.{◌≡◌, refl, sym, ◌∙◌, ap}
 use mathlib.Core.List.{List, [], ◌∷◌, ◌++◌, append_assoc, append-nil}
@@ -44,13 +44,6 @@ unfolding word_bytes
 length_word_bytes [] = refl
 length_word_bytes (w ∷ words) =
     length-append (bytes_of 8 w) (word_bytes words) ∙ omega (arith, length_bytes 8 w, length_word_bytes words)
-
--- a run of zeros, byte by byte
-pub one_zero_more : (l : List ℕ) (at i : ℕ) → set (sets l at (replicate i 0)) (at + i) 0 ≡ sets l at (replicate (i + 1) 0)
-one_zero_more l at i =
-    let zeros : List ℕ = replicate i 0 in
-    let long : length zeros ≡ i = length-replicate {A = ℕ} i 0 in
-    rw (sym (replicate-append-replicate {A = ℕ} i 1 0)) (sym (run_append zeros (0 ∷ []) l at ∙ rw long refl))
 
 -- words of zero are zeros
 zero_words : (n : ℕ) → word_bytes (replicate n 0) ≡ replicate (8 * n) 0

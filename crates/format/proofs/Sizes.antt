@@ -7,21 +7,19 @@ use lib.ListN.{length}
 use lib.Dec.{eqb, ltb}
 use borrow.Author.Tests.{eqb-true, not-false}
 use native.Mathlib.Omega.{arith}
-use Rattle.logic.proofs.Bools.{both, passed, whichever}
+use Rattle.logic.proofs.Bools.{both}
+use Rattle.refusal.specs.Refusal.{passes, check_number}
+use Rattle.refusal.proofs.Checks.{passed}
 use Rattle.party.specs.Calls.{max_fits}
-use Rattle.party.proofs.Refusals.{Checked}
+use Rattle.party.proofs.Refusals.{Checked, every_check_ends}
 use Rattle.call.specs.Call.{table_fits}
 use Rattle.little.proofs.Runs.{Agree}
 use Rattle.little.proofs.Digits.{same_number}
 use Rattle.header.specs.Header.{is_marked, version_at, parties_at, max_at, counts_fit}
 use Rattle.format.specs.Format.{is_known, length_of, sizes_fit, header_refusal}
 
-pub header_checked : (image : List ℕ) → Checked (header_refusal image)
-unfolding header_refusal
-header_checked image =
-    whichever Checked (ltb (length image) 8) (Checked.some refl)
-    (whichever Checked (not (is_marked 83 image && is_known (version_at image))) (Checked.some refl)
-    (whichever Checked (not (sizes_fit (version_at image) (length image) (max_at image) (parties_at image))) (Checked.some refl) (Checked.none refl)))
+pub header_checked : (image : List ℕ) → Checked (check_number (header_refusal image))
+header_checked image = every_check_ends (header_refusal image)
 
 pub record Sized (version bytes max parties : ℕ) : Type 0 where
   pub max_fits : max_fits max ≡ true
@@ -35,20 +33,20 @@ sized version bytes max parties e =
     record { max_fits = first.0; parties_fit = first.1; exact = eqb-true bytes (length_of version max parties) last.1 }
 
 -- the mark, and the one version that is known
-pub header_marked : (image : List ℕ) → header_refusal image ≡ 0 → (is_marked 83 image ≡ true) × (version_at image ≡ 1)
+pub header_marked : (image : List ℕ) → header_refusal image ≡ passes → (is_marked 83 image ≡ true) × (version_at image ≡ 1)
 unfolding header_refusal
 header_marked image e =
-    let past1 = passed (ltb (length image) 8) 0 _ e in
-    let past2 = passed (not (is_marked 83 image && is_known (version_at image))) 1 _ past1.1 in
+    let past1 = passed (ltb (length image) 8) _ _ e in
+    let past2 = passed (not (is_marked 83 image && is_known (version_at image))) _ _ past1.1 in
     let each = both (is_marked 83 image) (is_known (version_at image)) (not-false _ past2.0) in
     (each.0, eqb-true (version_at image) 1 each.1)
 
-pub header_sized : (image : List ℕ) → header_refusal image ≡ 0 → Sized (version_at image) (length image) (max_at image) (parties_at image)
+pub header_sized : (image : List ℕ) → header_refusal image ≡ passes → Sized (version_at image) (length image) (max_at image) (parties_at image)
 unfolding header_refusal
 header_sized image e =
-    let past1 = passed (ltb (length image) 8) 0 _ e in
-    let past2 = passed (not (is_marked 83 image && is_known (version_at image))) 1 _ past1.1 in
-    let past3 = passed (not (sizes_fit (version_at image) (length image) (max_at image) (parties_at image))) 0 0 past2.1 in
+    let past1 = passed (ltb (length image) 8) _ _ e in
+    let past2 = passed (not (is_marked 83 image && is_known (version_at image))) _ _ past1.1 in
+    let past3 = passed (not (sizes_fit (version_at image) (length image) (max_at image) (parties_at image))) _ passes past2.1 in
     sized (version_at image) (length image) (max_at image) (parties_at image) (not-false _ past3.0)
 
 -- Whether a header is taken is settled by its 8 bytes and the image's length.

@@ -1,6 +1,9 @@
 -- The image: where each thing stands, and when a header is taken. What a version decides takes it; 1 is the only one known.
 use Rattle.std.specs.Prelude.{ℕ, ◌+◌, ◌*◌, Bool, not, ◌&&◌, List, length, eqb, ltb}
+use Rattle.std.specs.declared.result.Result.TheVariants.{Err}
 use Rattle.logic.specs.Pick.{pick}
+use Rattle.refusal.specs.declared.Refusal.TheVariants.{WrongSize, WrongMark}
+use Rattle.refusal.specs.Refusal.{Check, passes}
 use Rattle.header.specs.Header.{is_marked, version_at, parties_at, max_at, counts_fit}
 
 abbrev pub is_known : (version : ℕ) → Bool
@@ -27,12 +30,12 @@ length_of version max parties = record_place (records_base version max) parties
 abbrev pub sizes_fit : (version bytes max parties : ℕ) → Bool
 sizes_fit version bytes max parties = counts_fit max parties && eqb bytes (length_of version max parties)
 
--- 1 for what is too short to have a header, 2 for the mark "PDS" or the version, then 1 for what the header says
-unfoldable pub header_refusal : List ℕ → ℕ
+-- what is too short to have a header, then the mark "PDS" and the version, then what the header says
+unfoldable pub header_refusal : List ℕ → Check
 header_refusal image =
-    pick (ltb (length image) 8) 1
-    (pick (not (is_marked 83 image && is_known (version_at image))) 2
-    (pick (not (sizes_fit (version_at image) (length image) (max_at image) (parties_at image))) 1 0))
+    pick (ltb (length image) 8) (Err WrongSize)
+    (pick (not (is_marked 83 image && is_known (version_at image))) (Err WrongMark)
+    (pick (not (sizes_fit (version_at image) (length image) (max_at image) (parties_at image))) (Err WrongSize) passes))
 
 -- where the records stand, and a party's record, as the image's own header has it
 abbrev pub records_in : List ℕ → ℕ

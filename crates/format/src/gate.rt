@@ -1,11 +1,12 @@
 // The checks before the record's own: the header, what it says, and the named record.
 ghost use Rattle.std.specs.Prelude.{◌≡◌};
 ghost use Rattle.format.specs.Format.{is_known, records_base, sizes_fit};
-ghost use Rattle.format.specs.Inside.{bad_header, header_of, not_named, named_of};
+ghost use Rattle.format.specs.Inside.{header_of, named_of};
 
 use crate::fields::is_spare;
 use crate::{Header, Named, WORDS};
 use header::{counts_fit, is_marked, max, parties, version};
+use refusal::Refusal;
 
 fn is_known(version: u16) -> bool
     ensures { result ≡ is_known version }
@@ -26,73 +27,44 @@ pub fn sizes_fit(version: u16, bytes: usize, max: u32, parties: u32) -> bool
     counts_fit(max, parties) & (bytes == records_base(version, max) + 32 * (parties as usize))
 }
 
-fn bad_header(number: u32) -> Header
-    ensures { result ≡ bad_header number }
-{
-    Header {
-        number,
-        version: 0,
-        max: 0,
-        parties: 0,
-    }
-}
-
 // The header: too short, then mark and version, then what it says.
 #[tactic(auto, unfolding(crate::specs::Inside::header_of, crate::specs::Format::header_refusal))]
-pub fn read_header(image: &[u8]) -> Header
+pub fn read_header(image: &[u8]) -> Result<Header, Refusal>
     ensures { result ≡ header_of image.now }
 {
     if image.len() < 8 {
-        return bad_header(1);
+        return Err(Refusal::WrongSize);
     }
     let version = version(image);
     if !(is_marked(image, b'S') & is_known(version)) {
-        return bad_header(2);
+        return Err(Refusal::WrongMark);
     }
     let max = max(image);
     let parties = parties(image);
     if !sizes_fit(version, image.len(), max as u32, parties as u32) {
-        return bad_header(1);
+        return Err(Refusal::WrongSize);
     }
-    Header {
-        number: 0,
+    Ok(Header {
         version,
         max,
         parties,
-    }
-}
-
-fn not_named(number: u32) -> Named
-    ensures { result ≡ not_named number }
-{
-    Named {
-        number,
-        max: 0,
-        at: 0,
-    }
+    })
 }
 
 // The checks before the record's own: header, operation, party number, and the record's spare bytes.
-pub fn read_named(image: &[u8], unknown: bool, party: u32) -> Named
+pub fn read_named(image: &[u8], unknown: bool, party: u32) -> Result<Named, Refusal>
     ensures { result ≡ named_of image.now unknown party }
 {
-    let h = read_header(image);
-    if h.number != 0 {
-        return not_named(h.number);
-    }
+    let h = read_header(image)?;
     if unknown {
-        return not_named(11);
+        return Err(Refusal::WrongOperation);
     }
     if h.parties as u32 <= party {
-        return not_named(3);
+        return Err(Refusal::WrongParty);
     }
     let at = records_base(h.version, h.max as u32) + 32 * (party as usize);
     if !is_spare(image, at) {
-        return not_named(4);
+        return Err(Refusal::NotValid);
     }
-    Named {
-        number: 0,
-        max: h.max,
-        at,
-    }
+    Ok(Named { max: h.max, at })
 }

@@ -9,19 +9,17 @@ pub mod gate;
 // Where the words begin.
 pub const WORDS: usize = 8;
 
-// A header: its refusal, 0 for none, and the version, MAX and the party count of one that is taken, else 0.
+// What a header says that is taken.
 #[derive(Clone, Copy)]
 pub struct Header {
-    pub number: u32,
     pub version: u16,
     pub max: u16,
     pub parties: u8,
 }
 
-// The named party's record: its refusal, 0 for none, and of one that is not refused MAX and where the record stands, else 0.
+// Of a named party that no check refuses: the image's MAX, and where its record stands.
 #[derive(Clone, Copy)]
 pub struct Named {
-    pub number: u32,
     pub max: u16,
     pub at: usize,
 }

@@ -5,10 +5,14 @@ use mathlib.Core.Bool.{Bool, true, false}
 use mathlib.Core.List.{List}
 use lib.ListN.{length, set, length-set}
 use lib.Seq.{sets, set-get_or, get_or-set_same}
-use lib.Dec.{eqb, leb}
-use borrow.Author.Tests.{eqb-true, ne_eqb, le-leb}
+use lib.Dec.{leb}
+use borrow.Author.Tests.{le-leb}
 use native.Mathlib.Omega.{arith}
+use Rattle.std.specs.declared.result.Result.TheVariants.{Ok, Err}
 use Rattle.logic.specs.Pick.{pick}
+use Rattle.refusal.specs.declared.Refusal.{Refusal}
+use Rattle.refusal.specs.declared.Refusal.TheVariants.{WrongOperation, WrongParty}
+use Rattle.refusal.specs.Refusal.{Check, passes}
 use Rattle.logic.specs.Every.{Every}
 use Rattle.word.specs.Word.{IsWord}
 use Rattle.record.specs.Record.{idle}
@@ -25,7 +29,7 @@ use Rattle.format.specs.Spelling.{strip_of, table_of, record_at, is_spare, spell
 use Rattle.format.specs.Inside.{named_refusal}
 use Rattle.format.proofs.Records.{read_record_fits}
 use Rattle.image.specs.Inside.{recorded}
-use Rattle.image.specs.Calls.{Done, unchanged, encoded, image_of}
+use Rattle.image.specs.Calls.{Done, unchanged, encoded, unless, image_of}
 use Rattle.image.proofs.Leaves.{words_fit, Fit, own_leaves_lem}
 use Rattle.format.proofs.Sizes.{header_sized}
 use Rattle.format.proofs.Gated.{NamedFits, named_fits}
@@ -39,8 +43,8 @@ pub max_of_lem : (image : List ℕ) → max_of (length (strip_of image)) ≡ max
 max_of_lem image = rw (strip_length image) (omega arith)
 
 -- past the header, the sizes are right
-gate_is : (image : List ℕ) (call : Call) → header_refusal image ≡ 0
-    → gate (max_at image + 2) (parties_at image) call ≡ pick (is_unknown call) 11 (pick (leb (parties_at image) (party_of call)) 3 0)
+gate_is : (image : List ℕ) (call : Call) → header_refusal image ≡ passes
+    → gate (max_at image + 2) (parties_at image) call ≡ pick (is_unknown call) (Err WrongOperation) (pick (leb (parties_at image) (party_of call)) (Err WrongParty) passes)
 unfolding gate
 gate_is image call taken =
     let right = header_sized image taken in
@@ -51,31 +55,31 @@ module _ (image : List ℕ) (call : Call) (are : AreBytes image) where
   went = encoded image (through (strip_of image) (table_of image) call)
 
   -- one that is turned away leaves what it decoded
-  turned : (number : ℕ) → encoded image (turned_away (strip_of image) (table_of image) number) ≡ unchanged number image
-  turned number = rw (decoded_is_spelled image are) refl
+  turned : (refusal : Refusal) → encoded image (turned_away (strip_of image) (table_of image) refusal) ≡ unchanged refusal image
+  turned refusal = rw (decoded_is_spelled image are) refl
 
-  pub call_is : image_of image call ≡ pick (eqb (named_refusal image (is_unknown call) (party_of call)) 0) went (unchanged (named_refusal image (is_unknown call) (party_of call)) image)
+  pub call_is : image_of image call ≡ unless (named_refusal image (is_unknown call) (party_of call)) image went
   unfolding image_of named_refusal call_of
-  call_is = go (eqb (header_refusal image) 0) (is_unknown call) (leb (parties_at image) (party_of call)) (is_spare (version_at image) image (party_place image (party_of call))) refl refl refl refl
+  call_is = go (header_refusal image) (is_unknown call) (leb (parties_at image) (party_of call)) (is_spare (version_at image) image (party_place image (party_of call))) refl refl refl refl
     where
       Is : Type 0
-      Is = image_of image call ≡ pick (eqb (named_refusal image (is_unknown call) (party_of call)) 0) went (unchanged (named_refusal image (is_unknown call) (party_of call)) image)
+      Is = image_of image call ≡ unless (named_refusal image (is_unknown call) (party_of call)) image went
 
-      go : (h u p s : Bool) → eqb (header_refusal image) 0 ≡ h → is_unknown call ≡ u → leb (parties_at image) (party_of call) ≡ p
+      go : (h : Check) (u p s : Bool) → header_refusal image ≡ h → is_unknown call ≡ u → leb (parties_at image) (party_of call) ≡ p
           → is_spare (version_at image) image (party_place image (party_of call)) ≡ s → Is
-      go false u p s eh eu ep es = simp eh
-      go true true p s eh eu ep es =
-          simp (eh, strip_length image, table_length image, gate_is image call (eqb-true _ 0 eh), eu) (turned 11)
-      go true false true s eh eu ep es =
-          simp (eh, strip_length image, table_length image, gate_is image call (eqb-true _ 0 eh), eu, ep) (turned 3)
-      go true false false false eh eu ep es =
-          simp (eh, strip_length image, table_length image, gate_is image call (eqb-true _ 0 eh), eu, ep, es)
-      go true false false true eh eu ep es =
-          simp (eh, strip_length image, table_length image, gate_is image call (eqb-true _ 0 eh), eu, ep, es)
+      go (Err refusal) u p s eh eu ep es = simp eh
+      go (Ok done) true p s eh eu ep es =
+          simp (eh, strip_length image, table_length image, gate_is image call eh, eu) (turned WrongOperation)
+      go (Ok done) false true s eh eu ep es =
+          simp (eh, strip_length image, table_length image, gate_is image call eh, eu, ep) (turned WrongParty)
+      go (Ok done) false false false eh eu ep es =
+          simp (eh, strip_length image, table_length image, gate_is image call eh, eu, ep, es)
+      go (Ok done) false false true eh eu ep es =
+          simp (eh, strip_length image, table_length image, gate_is image call eh, eu, ep, es)
 
-  pub stopped : (named_refusal image (is_unknown call) (party_of call) ≡ 0 → ⊥)
-      → image_of image call ≡ unchanged (named_refusal image (is_unknown call) (party_of call)) image
-  stopped some = call_is ∙ rw (ne_eqb (named_refusal image (is_unknown call) (party_of call)) 0 some) refl
+  pub stopped : (refusal : Refusal) → named_refusal image (is_unknown call) (party_of call) ≡ Err refusal
+      → image_of image call ≡ unchanged refusal image
+  stopped refusal some = call_is ∙ rw some refl
 
 -- where the named record stands, and the record
 abbrev pub place_in : List ℕ → Call → ℕ
@@ -85,7 +89,7 @@ abbrev pub record_in : List ℕ → Call → Record
 record_in image call = record_at (version_at image) image (place_in image call)
 
 -- A call that passes the checks before the record's own does what it does on the decoded strip and record.
-module _ (image : List ℕ) (call : Call) (are : AreBytes image) (clear : named_refusal image (is_unknown call) (party_of call) ≡ 0) where
+module _ (image : List ℕ) (call : Call) (are : AreBytes image) (clear : named_refusal image (is_unknown call) (party_of call) ≡ passes) where
   fits : NamedFits image (is_unknown call) (party_of call)
   fits = named_fits image (is_unknown call) (party_of call) clear
 
@@ -95,16 +99,16 @@ module _ (image : List ℕ) (call : Call) (are : AreBytes image) (clear : named_
   abbrev Owned : Answered → List ℕ → Type 0
   Owned given left = (own_of (strip_of image) (record_in image call) call ≡ given) × (own_leaves (strip_of image) (record_in image call) call ≡ left)
 
-  passes : {given : Answered} {left : List ℕ} → Owned given left
+  goes : {given : Answered} {left : List ℕ} → Owned given left
       → image_of image call ≡ record { answer = given.answer; image = spelled image left (set (table_of image) (party_of call) given.rec) }
-  passes owned =
+  goes owned =
       call_is image call are ∙ rw (clear, record_is, owned.0, owned.1) refl
 
-  pub own_refused : (number : ℕ) → Owned (refused number (record_in image call)) (strip_of image) → image_of image call ≡ unchanged number image
-  own_refused number owned =
+  pub own_refused : (refusal : Refusal) → Owned (refused refusal (record_in image call)) (strip_of image) → image_of image call ≡ unchanged refusal image
+  own_refused refusal owned =
       let same : set (table_of image) (party_of call) (record_in image call) ≡ table_of image =
       ap (set (table_of image) (party_of call)) (sym record_is) ∙ set-get_or (table_of image) (party_of call) idle in
-      passes owned ∙ rw (same, decoded_is_spelled image are) refl
+      goes owned ∙ rw (same, decoded_is_spelled image are) refl
 
   module _ (narrow : Fitting call) where
     -- what the call leaves fits the image
@@ -117,7 +121,7 @@ module _ (image : List ℕ) (call : Call) (are : AreBytes image) (clear : named_
     pub own_recorded : (given : Answered) → Owned given (strip_of image)
         → image_of image call ≡ record { answer = given.answer; image = recorded (version_at image) image (place_in image call) given }
     own_recorded given owned =
-        passes owned ∙ rw (record_is_laid image are (party_of call) given.rec (rec_fits given owned) fits.party_known) refl
+        goes owned ∙ rw (record_is_laid image are (party_of call) given.rec (rec_fits given owned) fits.party_known) refl
 
     pub own_swapped : (given : Answered) (place w : ℕ) → Owned given (set (strip_of image) place w) → place < max_at image + 2
         → image_of image call ≡ record { answer = given.answer; image = recorded (version_at image) (sets image (word_place words_base place) (bytes_of 8 w)) (place_in image call) given }
@@ -126,4 +130,4 @@ module _ (image : List ℕ) (call : Call) (are : AreBytes image) (clear : named_
         let word_fits : IsWord w =
         subst IsWord (get_or-set_same (strip_of image) place w 0 within)
         (subst (Every IsWord 0) owned.1 own_fit.words place (rw (length-set (strip_of image) place w) within)) in
-        passes owned ∙ rw (both_are_laid image are place w (party_of call) given.rec word_fits inside (rec_fits given owned) fits.party_known) refl
+        goes owned ∙ rw (both_are_laid image are place w (party_of call) given.rec word_fits inside (rec_fits given owned) fits.party_known) refl

@@ -5,14 +5,15 @@ use mathlib.Core.Path.{◌≡◌, refl, ◌∙◌}
 use mathlib.Core.Bool.{false}
 use mathlib.Core.List.{List}
 use lib.ListN.{length, length-set}
-use lib.Dec.{eqb}
+use Rattle.std.specs.declared.result.Result.TheVariants.{Ok, Err}
 use Rattle.logic.specs.Every.{Every}
-use Rattle.logic.proofs.Bools.{whichever}
+use Rattle.refusal.specs.declared.Refusal.{Refusal}
+use Rattle.refusal.specs.Refusal.{Check, passes}
 use Rattle.logic.proofs.Lists.{every_set}
 use Rattle.word.specs.Word.{IsWord}
 use Rattle.record.specs.Record.{idle}
 use Rattle.record.specs.declared.Record.{Record}
-use Rattle.call.specs.Call.{Call, Fitting, gate, own_of, own_leaves, record_of, party_of, Left, through, turned_away, call_of}
+use Rattle.call.specs.Call.{Call, Fitting, gate, own_of, own_leaves, record_of, party_of, Left, through, turned_away, past, call_of}
 use Rattle.format.specs.Format.{header_refusal}
 use Rattle.format.specs.Spelling.{strip_of, table_of, spelled, RecordFits}
 use Rattle.image.specs.Calls.{decoded, spare_refused, image_of}
@@ -30,7 +31,7 @@ pub record LeftFits (strip : List ℕ) (table : List Record) (left : Left) : Typ
   pub records : Every RecordFits idle left.table
 
 -- The image of a call that the header and the spare bytes let through spells what the call leaves.
-module _ (image : List ℕ) (are : AreBytes image) (taken : header_refusal image ≡ 0) (call : Call) (spare : spare_refused image call ≡ false)
+module _ (image : List ℕ) (are : AreBytes image) (taken : header_refusal image ≡ passes) (call : Call) (spare : spare_refused image call ≡ false)
     (narrow : Fitting call) where
   abbrev strip : List ℕ
   strip = strip_of image
@@ -52,7 +53,7 @@ module _ (image : List ℕ) (are : AreBytes image) (taken : header_refusal image
 
   pub left_fits : LeftFits strip table (decoded image call)
   unfolding call_of
-  left_fits = whichever (LeftFits strip table) (eqb (gate (length strip) (length table) call) 0) gone away
+  left_fits = go (gate (length strip) (length table) call)
     where
       gone : LeftFits strip table (through strip table call)
       gone =
@@ -63,8 +64,12 @@ module _ (image : List ℕ) (are : AreBytes image) (taken : header_refusal image
             records = every_set RecordFits idle table (party_of call) (own_of strip own call).rec (records_fit image are) own_fit.rec;
           }
 
-      away : LeftFits strip table (turned_away strip table (gate (length strip) (length table) call))
-      away = record { as_many_words = refl; words = words_fit image are; as_many_records = refl; records = records_fit image are }
+      away : (refusal : Refusal) → LeftFits strip table (turned_away strip table refusal)
+      away refusal = record { as_many_words = refl; words = words_fit image are; as_many_records = refl; records = records_fit image are }
+
+      go : (check : Check) → LeftFits strip table (past check strip table call)
+      go (Ok done) = gone
+      go (Err refusal) = away refusal
 
   pub strip_after_is_decoded : strip_of (image_of image call).image ≡ (decoded image call).strip
   strip_after_is_decoded =

@@ -7,8 +7,12 @@ use lib.ListN.{length, replicate}
 use lib.Seq.{sets, length-sets}
 use lib.Dec.{eqb, leb}
 use borrow.Author.Tests.{leb-true, not-false}
-use Rattle.logic.proofs.Bools.{both, passed}
-use Rattle.party.specs.declared.Answer.TheVariants.{GoesOn, Refused}
+use Rattle.std.specs.declared.result.Result.TheVariants.{Ok, Err}
+use Rattle.logic.proofs.Bools.{both}
+use Rattle.refusal.specs.declared.Refusal.TheVariants.{WrongSize, Outside}
+use Rattle.refusal.specs.Refusal.{passes}
+use Rattle.refusal.proofs.Checks.{passed}
+use Rattle.party.specs.declared.Answer.TheVariants.{GoesOn}
 use Rattle.party.proofs.Cleared.{max_within}
 use Rattle.header.specs.Header.{counts_fit}
 use Rattle.strip.specs.Lay.{rights_of}
@@ -27,11 +31,11 @@ pub record Layable (bytes max parties divide : ℕ) : Type 0 where
   pub parties_few : parties ≤ 16
   pub divided : divide ≤ max
 
-pub layable : (bytes max parties divide : ℕ) → lay_refusal bytes max parties divide ≡ 0 → Layable bytes max parties divide
+pub layable : (bytes max parties divide : ℕ) → lay_refusal bytes max parties divide ≡ passes → Layable bytes max parties divide
 unfolding lay_refusal
 layable bytes max parties divide e =
-    let past1 = passed (not (sizes_fit 1 bytes max parties)) 0 _ e in
-    let past8 = passed (not (leb divide max)) 7 0 past1.1 in
+    let past1 = passed (not (sizes_fit 1 bytes max parties)) _ _ e in
+    let past8 = passed (not (leb divide max)) _ passes past1.1 in
     let fits = sized 1 bytes max parties (not-false _ past1.0) in
     record {
       exact = fits.exact;
@@ -56,23 +60,23 @@ length_blank image max parties =
     length-sets (headed image max parties) 8 (replicate (8 * (max + 2) + 32 * parties) 0) ∙ length_headed image max parties
 
 module _ (image : List ℕ) (max parties divide : ℕ) where
-  pub keeps_lay_size : sizes_fit 1 (length image) max parties ≡ false → ImagePromise (lay_of image max parties divide) (Refused 1) image
+  pub keeps_lay_size : sizes_fit 1 (length image) max parties ≡ false → ImagePromise (lay_of image max parties divide) (Err WrongSize) image
   unfolding lay_of lay_refusal
   keeps_lay_size other = promise (rw other refl)
 
   pub keeps_lay_divide : sizes_fit 1 (length image) max parties ≡ true → leb divide max ≡ false
-      → ImagePromise (lay_of image max parties divide) (Refused 8) image
+      → ImagePromise (lay_of image max parties divide) (Err Outside) image
   unfolding lay_of lay_refusal
   keeps_lay_divide sized past = promise (rw (sized, past) refl)
 
-  pub keeps_lay_done : Layable (length image) max parties divide → lay_refusal (length image) max parties divide ≡ 0 → (left : List ℕ)
+  pub keeps_lay_done : Layable (length image) max parties divide → lay_refusal (length image) max parties divide ≡ passes → (left : List ℕ)
       → left ≡ sets (blank image max parties) (8 + 8 * (divide + 1)) (word_bytes (rights_of max divide))
-      → ImagePromise (lay_of image max parties divide) GoesOn left
+      → ImagePromise (lay_of image max parties divide) (Ok GoesOn) left
   unfolding lay_of
   keeps_lay_done fits none left laid =
       let fresh = laid ∙ fresh_laid image 1 max parties divide fits.divided fits.exact in
       promise (rw (none, fresh) refl)
 
-  pub none_refused : sizes_fit 1 (length image) max parties ≡ true → leb divide max ≡ true → lay_refusal (length image) max parties divide ≡ 0
+  pub none_refused : sizes_fit 1 (length image) max parties ≡ true → leb divide max ≡ true → lay_refusal (length image) max parties divide ≡ passes
   unfolding lay_refusal
   none_refused sized low = rw (sized, low) refl

@@ -5,11 +5,12 @@ use mathlib.Core.Bool.{Bool, true, false}
 use mathlib.Core.List.{List}
 use lib.ListN.{length, get_or, length-set, get_or-eq_default}
 use lib.Dec.{eqb, ltb}
-use borrow.Author.Tests.{eqb-true, ltb-true, ltb-false}
+use borrow.Author.Tests.{ltb-true, ltb-false}
 use native.Mathlib.Omega.{arith}
-use Rattle.logic.specs.Pick.{pick}
+use Rattle.std.specs.declared.result.Result.TheVariants.{Ok, Err}
 use Rattle.logic.specs.Every.{Every}
 use Rattle.logic.proofs.Bools.{whichever}
+use Rattle.refusal.specs.Refusal.{Check, if_passes}
 use Rattle.logic.proofs.Lists.{every_set}
 use Rattle.word.specs.Word.{IsWord, raised_to}
 use Rattle.word.specs.Swap.{swap_of, words_after}
@@ -17,10 +18,9 @@ use Rattle.word.specs.declared.Swapped.{Swapped}
 use Rattle.word.specs.declared.Swapped.TheVariants.{Won, Lost, Stuck}
 use Rattle.word.proofs.Laws.{SwapGoes, swap_goes, raised_is_word}
 use Rattle.record.specs.Record.{idle, begun}
-use Rattle.party.specs.Answer.{going_on, refused}
+use Rattle.party.specs.Answer.{going_on, unless}
 use Rattle.party.specs.Calls.{start_refusal, start_of, withdraw_refusal, withdraw_of}
 use Rattle.record.specs.declared.Record.{Record}
-use Rattle.party.specs.declared.Answered.{Answered}
 use Rattle.party.proofs.Cleared.{startable}
 use Rattle.stages.specs.Stages.{access_of}
 use Rattle.stages.specs.Follow.{swapped_of}
@@ -115,31 +115,32 @@ module _ (strip : List ℕ) (words : Every IsWord 0 strip) where
   module _ (r : Record) (fits : RecordFits r) where
     step_leaves_lem : (hint : ℕ) → Fit strip (step_leaves strip r hint) (step_of strip r hint).rec
     unfolding step_of step_leaves
-    step_leaves_lem hint = go (eqb (step_refusal (length strip) r hint) 0) refl
+    step_leaves_lem hint = go (step_refusal (length strip) r hint) refl
       where
         access : Access
         access = access_of (aimed r hint)
 
-        go : (clear : Bool) → eqb (step_refusal (length strip) r hint) 0 ≡ clear
-            → Fit strip (pick clear (written strip access) strip)
-            (pick clear (followed strip (aimed r hint) access) (refused (step_refusal (length strip) r hint) r)).rec
-        go true e =
-            let clear = steppable (length strip) r hint (eqb-true _ 0 e) in
+        go : (check : Check) → step_refusal (length strip) r hint ≡ check
+            → Fit strip (if_passes check (written strip access) strip) (unless check r (followed strip (aimed r hint) access)).rec
+        go (Ok done) e =
+            let clear = steppable (length strip) r hint e in
             let fitting = aimed_fits r hint fits (hint_fits_k (length strip) r hint clear) in
             access_leaves (aimed r hint) fitting access (access_fits (aimed r hint) fitting)
-        go false e = same_words r fits
+        go (Err refusal) e = same_words r fits
 
     pub own_leaves_lem : (call : Call) → Fitting call → Fit strip (own_leaves strip r call) (own_of strip r call).rec
     unfolding start_of withdraw_of
-    own_leaves_lem (start party operation order) narrow = same_words _ (go (eqb (start_refusal max r operation order) 0) refl)
+    own_leaves_lem (start party operation order) narrow = same_words _ (go (start_refusal max r operation order) refl)
       where
         max : ℕ
         max = max_of (length strip)
 
-        go : (clear : Bool) → eqb (start_refusal max r operation order) 0 ≡ clear
-            → RecordFits (pick clear (going_on (begun operation order)) (refused (start_refusal max r operation order) r)).rec
-        go true e = begun_fits operation order (omega (arith, startable max r operation order (eqb-true _ 0 e))) narrow
-        go false e = fits
+        go : (check : Check) → start_refusal max r operation order ≡ check → RecordFits (unless check r (going_on (begun operation order))).rec
+        go (Ok done) e = begun_fits operation order (omega (arith, (startable max r operation order e).known)) narrow
+        go (Err refusal) e = fits
     own_leaves_lem (step party hint) narrow = step_leaves_lem hint
-    own_leaves_lem (withdraw party) narrow =
-        same_words _ (whichever (λ (given : Answered). RecordFits given.rec) (eqb (withdraw_refusal (max_of (length strip)) r) 0) idle_fits_lem fits)
+    own_leaves_lem (withdraw party) narrow = same_words _ (go (withdraw_refusal (max_of (length strip)) r))
+      where
+        go : (check : Check) → RecordFits (unless check r (going_on idle)).rec
+        go (Ok done) = idle_fits_lem
+        go (Err refusal) = fits

@@ -5,8 +5,11 @@ use mathlib.Core.Bool.{false}
 use mathlib.Core.List.{List}
 use lib.ListN.{length, get_or}
 use lib.Dec.{ltb}
-use borrow.Author.Tests.{ne_eqb}
 use native.Mathlib.Omega.{arith}
+use Rattle.std.specs.declared.result.Result.TheVariants.{Ok, Err}
+use Rattle.refusal.specs.declared.Refusal.{Refusal}
+use Rattle.refusal.specs.declared.Refusal.TheVariants.{CounterAtEnd}
+use Rattle.refusal.specs.Refusal.{passes}
 use Rattle.word.specs.Word.{raised_to}
 use Rattle.word.specs.Swap.{swap_of, words_after}
 use Rattle.word.specs.declared.Swapped.{Swapped}
@@ -42,7 +45,7 @@ use Rattle.format.proofs.Spelled.{strip_length, word_is_read}
 use Rattle.image.proofs.Called.{strip_fits_lem, max_of_lem, place_in, record_in, own_refused, own_recorded, own_swapped}
 
 module _ (image : List ℕ) (party operation order : ℕ) (are : AreBytes image)
-    (clear : named_refusal image (ltb 3 operation) party ≡ 0) where
+    (clear : named_refusal image (ltb 3 operation) party ≡ passes) where
   abbrev starting : Call
   starting = Call.start party operation order
 
@@ -53,19 +56,19 @@ module _ (image : List ℕ) (party operation order : ℕ) (are : AreBytes image)
       let fits = named_fits image (ltb 3 operation) party clear in
       rw (max_of_lem image, fits.sized_right.max_fits, fits.known) refl
 
-  pub start_refused : (start_own (max_at image) (record_in image starting) operation order ≡ 0 → ⊥)
-      → image_of image starting ≡ unchanged (start_own (max_at image) (record_in image starting) operation order) image
+  pub start_refused : (refusal : Refusal) → start_own (max_at image) (record_in image starting) operation order ≡ Err refusal
+      → image_of image starting ≡ unchanged refusal image
   unfolding start_of
-  start_refused some =
-      own_refused image starting are clear _ (rw (start_own_is, ne_eqb _ 0 some) refl, refl)
+  start_refused refusal some =
+      own_refused image starting are clear refusal (rw (start_own_is, some) refl, refl)
 
-  pub start_done : start_own (max_at image) (record_in image starting) operation order ≡ 0 → order < 4294967296
-      → image_of image starting ≡ record { answer = GoesOn; image = recorded (version_at image) image (place_in image starting) (going_on (begun operation order)) }
+  pub start_done : start_own (max_at image) (record_in image starting) operation order ≡ passes → order < 4294967296
+      → image_of image starting ≡ record { answer = Ok GoesOn; image = recorded (version_at image) image (place_in image starting) (going_on (begun operation order)) }
   unfolding start_of
   start_done none narrow =
       own_recorded image starting are clear narrow (going_on (begun operation order)) (rw (start_own_is, none) refl, refl)
 
-module _ (image : List ℕ) (party : ℕ) (are : AreBytes image) (clear : named_refusal image false party ≡ 0) where
+module _ (image : List ℕ) (party : ℕ) (are : AreBytes image) (clear : named_refusal image false party ≡ passes) where
   abbrev withdrawing : Call
   withdrawing = Call.withdraw party
 
@@ -74,14 +77,14 @@ module _ (image : List ℕ) (party : ℕ) (are : AreBytes image) (clear : named_
   unfolding withdraw_refusal
   withdraw_own_is = rw (max_of_lem image, (named_fits image false party clear).sized_right.max_fits) refl
 
-  pub withdraw_refused : (withdraw_own (max_at image) (record_in image withdrawing) ≡ 0 → ⊥)
-      → image_of image withdrawing ≡ unchanged (withdraw_own (max_at image) (record_in image withdrawing)) image
+  pub withdraw_refused : (refusal : Refusal) → withdraw_own (max_at image) (record_in image withdrawing) ≡ Err refusal
+      → image_of image withdrawing ≡ unchanged refusal image
   unfolding withdraw_of
-  withdraw_refused some =
-      own_refused image withdrawing are clear _ (rw (withdraw_own_is, ne_eqb _ 0 some) refl, refl)
+  withdraw_refused refusal some =
+      own_refused image withdrawing are clear refusal (rw (withdraw_own_is, some) refl, refl)
 
-  pub withdraw_done : withdraw_own (max_at image) (record_in image withdrawing) ≡ 0
-      → image_of image withdrawing ≡ record { answer = GoesOn; image = recorded (version_at image) image (place_in image withdrawing) (going_on idle) }
+  pub withdraw_done : withdraw_own (max_at image) (record_in image withdrawing) ≡ passes
+      → image_of image withdrawing ≡ record { answer = Ok GoesOn; image = recorded (version_at image) image (place_in image withdrawing) (going_on idle) }
   unfolding withdraw_of
   withdraw_done none =
       own_recorded image withdrawing are clear tt (going_on idle) (rw (withdraw_own_is, none) refl, refl)
@@ -94,7 +97,7 @@ swap_is_later r place from to then access s =
     let z : ◌≡◌ {A = ℕ} 0 1 = cc in
     omega arith
 
-module _ (image : List ℕ) (party hint : ℕ) (are : AreBytes image) (clear : named_refusal image false party ≡ 0) where
+module _ (image : List ℕ) (party hint : ℕ) (are : AreBytes image) (clear : named_refusal image false party ≡ passes) where
   abbrev stepping : Call
   stepping = Call.step party hint
 
@@ -107,18 +110,18 @@ module _ (image : List ℕ) (party hint : ℕ) (are : AreBytes image) (clear : n
       let fits = named_fits image false party clear in
       rw (max_of_lem image, strip_length image, strip_fits_lem (max_at image) (max_within (max_at image) fits.sized_right.max_fits)) refl
 
-  pub step_refused : (step_own (max_at image) before hint ≡ 0 → ⊥)
-      → image_of image stepping ≡ unchanged (step_own (max_at image) before hint) image
-  step_refused some =
-      let step = when_refused (strip_of image) before hint (λ e. some (sym step_own_is ∙ e)) in
-      own_refused image stepping are clear _ (step.answered ∙ ap (λ (n : ℕ). refused n before) step_own_is, step.words)
+  pub step_refused : (refusal : Refusal) → step_own (max_at image) before hint ≡ Err refusal
+      → image_of image stepping ≡ unchanged refusal image
+  step_refused refusal some =
+      let step = when_refused (strip_of image) before hint refusal (step_own_is ∙ some) in
+      own_refused image stepping are clear refusal (step.answered, step.words)
 
-  module _ (none : step_own (max_at image) before hint ≡ 0) where
-    passes : step_refusal (length (strip_of image)) before hint ≡ 0
-    passes = step_own_is ∙ none
+  module _ (none : step_own (max_at image) before hint ≡ passes) where
+    through : step_refusal (length (strip_of image)) before hint ≡ passes
+    through = step_own_is ∙ none
 
     cleared : Steppable (length (strip_of image)) before hint
-    cleared = steppable (length (strip_of image)) before hint passes
+    cleared = steppable (length (strip_of image)) before hint through
 
     -- the hint that stage 1 takes fits k
     pub hint_fits_lem : before.stage ≡ 1 → hint < 65536
@@ -140,7 +143,7 @@ module _ (image : List ℕ) (party hint : ℕ) (are : AreBytes image) (clear : n
       step_looked place then access =
           let word = seen_at image words_base place in
           let seen = word_is_read image place (access_inside (Look place then) access) in
-          let step = when_looks (strip_of image) before hint at passes a place then word access (sym seen) in
+          let step = when_looks (strip_of image) before hint at through a place then word access (sym seen) in
           own_recorded image stepping are clear tt (looked_of (max_at image) at then word)
           (step.answered ∙ ap (λ (max : ℕ). looked_of max at then word) (max_of_lem image), step.words)
 
@@ -165,7 +168,7 @@ module _ (image : List ℕ) (party hint : ℕ) (are : AreBytes image) (clear : n
           owned met e =
               let same : met ≡ swap_of (get_or (strip_of image) place 0) from =
               sym e ∙ ap (λ (w : ℕ). swap_of w from) (sym (word_is_read image place inside)) in
-              when_swaps (strip_of image) before hint at passes a place from to then met
+              when_swaps (strip_of image) before hint at through a place from to then met
               (words_after met (strip_of image) place (raised_to from to)) access
               (record { answered = same; words = ap (λ (t : Swapped). words_after t (strip_of image) place (raised_to from to)) same })
 
@@ -182,4 +185,4 @@ module _ (image : List ℕ) (party hint : ℕ) (are : AreBytes image) (clear : n
           go (SwapGoes.stuck same ended e) =
               let step = owned Stuck e in
               let later = aimed_later before hint (λ s. swap_is_later at place from to then access (ap (λ (r : Record). r.stage) a ∙ s)) in
-              subst Went (sym e) (own_refused image stepping are clear 9 (step.answered ∙ ap (refused 9) (a ∙ sym later), step.words))
+              subst Went (sym e) (own_refused image stepping are clear CounterAtEnd (step.answered ∙ ap (refused CounterAtEnd) (a ∙ sym later), step.words))

@@ -6,6 +6,8 @@ use Rattle.word.specs.Swap.{swap_of}
 use Rattle.word.specs.declared.Swapped.{Swapped}
 use Rattle.word.specs.declared.Swapped.TheVariants.{Won, Lost, Stuck}
 use Rattle.record.specs.declared.Record.{Record}
+use Rattle.std.specs.declared.result.Result.{Result}
+use Rattle.refusal.specs.declared.Refusal.{Refusal}
 use Rattle.party.specs.declared.Answer.{Answer}
 use Rattle.party.specs.declared.Answered.{Answered}
 use Rattle.stages.specs.Follow.{looked_of, swapped_of}
@@ -24,7 +26,7 @@ recorded version image at given = sets image at (record_bytes version given.rec)
 abbrev pub seen_at : (image : List ℕ) (base place : ℕ) → ℕ
 seen_at image base place = number_at 8 image (word_place base place)
 
-pub record LookMade (image : List ℕ) (base at max : ℕ) (r : Record) (place : ℕ) (then : AfterLook) (answer : Answer) (left : List ℕ) : Type 0 where
+pub record LookMade (image : List ℕ) (base at max : ℕ) (r : Record) (place : ℕ) (then : AfterLook) (answer : Result Answer Refusal) (left : List ℕ) : Type 0 where
   pub answered : answer ≡ (looked_of max r then (seen_at image base place)).answer
   pub bytes_left : left ≡ recorded (version_at image) image at (looked_of max r then (seen_at image base place))
 
@@ -38,6 +40,6 @@ swap_recorded Stuck image base at place word given = image
 abbrev pub met_at : (image : List ℕ) (base place from : ℕ) → Swapped
 met_at image base place from = swap_of (seen_at image base place) from
 
-pub record SwapMade (image : List ℕ) (base at : ℕ) (r : Record) (place from to : ℕ) (then : AfterSwap) (answer : Answer) (left : List ℕ) : Type 0 where
+pub record SwapMade (image : List ℕ) (base at : ℕ) (r : Record) (place from to : ℕ) (then : AfterSwap) (answer : Result Answer Refusal) (left : List ℕ) : Type 0 where
   pub answered : answer ≡ (swapped_of r then (met_at image base place from)).answer
   pub bytes_left : left ≡ swap_recorded (met_at image base place from) image base at place (raised_to from to) (swapped_of r then (met_at image base place from))

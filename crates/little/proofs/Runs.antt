@@ -1,11 +1,12 @@
 -- A run of stores: what stands where afterwards.
 use Prim.Native.Nat.{ℕ, zero, suc, ◌+◌, ◌≤◌, ◌<◌}
-use mathlib.Core.Path.{◌≡◌, refl, ◌∙◌, ap}
-use mathlib.Core.List.{List, [], ◌∷◌, ◌++◌, append-nil}
-use lib.ListN.{length, get_or, set, length-set, drop_of_length-le}
-use lib.Seq.{sets, sets-eq, get_or-set_same, get_or-set_other}
+use mathlib.Core.Path.{◌≡◌, refl, sym, ◌∙◌, ap}
+use mathlib.Core.List.{List, [], ◌∷◌, ◌++◌, append_assoc, append-nil}
+use lib.ListN.{length, get_or, set, take, drop, length-set, drop_of_length-le}
+use lib.Seq.{sets, sets-eq, get_or-set_same, get_or-set_other, drop-drop}
 use native.Mathlib.Nat.{add-zero}
 use native.Mathlib.Omega.{arith}
+use borrow.Rule.Slice.PartMut.{put_mid}
 
 -- Two images agree on `width` bytes from `at` on.
 abbrev pub Agree : (l m : List ℕ) (at width : ℕ) → Type 0
@@ -57,3 +58,10 @@ middle_run [] (u ∷ under) after (v ∷ vs) e =
     behind_a_head v vs (under ++ after) 0 ∙ ap (λ (r : List ℕ). v ∷ r) (middle_run [] under after vs (omega arith))
 middle_run (b ∷ before) under after vs e =
     behind_a_head b vs (before ++ (under ++ after)) (length before) ∙ ap (λ (r : List ℕ). b ∷ r) (middle_run before under after vs e)
+
+-- a part of a list that was written anew is a run of stores
+pub part_laid : {A : Type 0} (at count : ℕ) (l new : List A) → length new ≡ count → at + count ≤ length l → put_mid at count l new ≡ sets l at new
+part_laid at count l new e inside =
+    let kept = drop count (drop at l) in
+    let past : drop (at + length new) l ≡ kept = rw e (sym (drop-drop count at l)) in
+    sym (sets-eq new l at (omega arith) ∙ rw past (append_assoc (take at l) new kept))

@@ -7,6 +7,8 @@ use lib.ListN.{length, get_or, drop}
 use native.Mathlib.Omega.{arith}
 use Rattle.logic.specs.Every.{Every}
 use Rattle.party.specs.Answer.{number_of, carried_of}
+use Rattle.std.specs.declared.result.Result.{Result}
+use Rattle.refusal.specs.declared.Refusal.{Refusal}
 use Rattle.party.specs.declared.Answer.{Answer}
 use Rattle.plain.specs.Plain.{Plain, fresh_plain}
 use Rattle.call.specs.Call.{Call, Fitting}
@@ -49,7 +51,7 @@ a_run_is_calls_in_turn (call ∷ calls) image =
     ((image_of image call).image, record { packed = refl; bytes = refl }, a_run_is_calls_in_turn calls (image_of image call).image)
 
 -- what is read in each packed answer of a run is read in the answer
-reads_back : (read : ℕ → ℕ) (of : Answer → ℕ)
+reads_back : (read : ℕ → ℕ) (of : Result Answer Refusal → ℕ)
     → ((image : List ℕ) (call : Call) → read (packed_of (image_of image call).answer) ≡ of (image_of image call).answer)
     → (calls : List Call) (image : List ℕ) → map read (map packed_of (answers_on image calls)) ≡ map of (answers_on image calls)
 unfolding answers_on

@@ -8,6 +8,8 @@ use lib.ListN.{length}
 use native.Mathlib.Omega.{arith}
 use Rattle.logic.specs.Every.{Every}
 use Rattle.party.specs.Answer.{number_of, carried_of}
+use Rattle.std.specs.declared.result.Result.{Result}
+use Rattle.refusal.specs.declared.Refusal.{Refusal}
 use Rattle.party.specs.declared.Answer.{Answer}
 use Rattle.party.proofs.Cleared.{max_within}
 use Rattle.plain.specs.Plain.{Plain}
@@ -59,7 +61,7 @@ unfolding answers_on image_after
 a_run_in_two_parts [] later image = (refl, refl)
 a_run_in_two_parts (call ∷ calls) later image =
     let rest = a_run_in_two_parts calls later (image_of image call).image in
-    (ap (λ (l : List Answer). (image_of image call).answer ∷ l) rest.0, rest.1)
+    (ap (λ (l : List (Result Answer Refusal)). (image_of image call).answer ∷ l) rest.0, rest.1)
 
 module _ (image : List ℕ) (p : Plain) (parties : ℕ) (begins : Begins image p parties) (calls : List Call)
     (fitting : Every Fitting no_call calls) where

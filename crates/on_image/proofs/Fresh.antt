@@ -10,6 +10,7 @@ use borrow.Author.Tests.{eqb-true, eq-eqb, leb-true, le-ltb}
 use native.Mathlib.Omega.{arith}
 use Rattle.logic.proofs.Bools.{both}
 use Rattle.logic.proofs.Lists.{all_the_same}
+use Rattle.refusal.specs.Refusal.{passes}
 use Rattle.little.specs.Bytes.{AreBytes, number_at, bytes_of}
 use Rattle.little.proofs.Runs.{middle_run}
 use Rattle.little.proofs.Digits.{byte_before, bytes_behind, digits_are_bytes}
@@ -76,7 +77,7 @@ module _ (version max parties divide : ℕ) (known : is_known version ≡ true) 
       length-append header (words ++ zeros) ∙ rw (length-append words zeros)
       (omega (arith, length_header version max parties, long_words, length-replicate {A = ℕ} (32 * parties) 0))
 
-  fresh_is_taken : header_refusal image ≡ 0
+  fresh_is_taken : header_refusal image ≡ passes
   unfolding header_refusal bytes_of
   fresh_is_taken =
       rw (le-ltb (length image) 8 (omega (arith, exact)), version_is, max_is, known, fit, eq-eqb (length image) (length_of version max parties) exact) refl

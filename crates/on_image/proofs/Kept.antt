@@ -1,13 +1,14 @@
 -- A call on an intact image leaves an intact image, which spells what the call leaves of what the image spelled before.
 use Prim.Native.Nat.{ℕ, ◌+◌, ◌-◌, ◌<◌}
 use mathlib.Core.Path.{◌≡◌, refl, sym, ◌∙◌, subst}
-use mathlib.Core.Bool.{Bool, true, false, not, ◌&&◌}
+use mathlib.Core.Bool.{true, false, not, ◌&&◌}
 use mathlib.Core.List.{List}
 use lib.ListN.{length, get_or}
-use lib.Dec.{eqb}
-use borrow.Author.Tests.{eqb-true}
+use Rattle.std.specs.Prelude.{is_ok}
+use Rattle.std.specs.declared.result.Result.TheVariants.{Ok, Err}
 use native.Mathlib.Omega.{arith}
 use Rattle.logic.specs.Every.{Every}
+use Rattle.refusal.specs.Refusal.{Check}
 use Rattle.little.proofs.Runs.{Agree}
 use Rattle.little.proofs.Digits.{same_number}
 use Rattle.word.specs.Word.{IsWord}
@@ -56,14 +57,14 @@ module _ (image strip : List ℕ) (table : List Record) (intact : Intact image) 
 module _ (image : List ℕ) (intact : Intact image) (call : Call) (narrow : Fitting call) where
   -- the spare bytes of a party that is known are zero
   none_spared : spare_refused image call ≡ false
-  none_spared = go (eqb (gate (max_at image + 2) (parties_at image) call) 0) refl
+  none_spared = go (gate (max_at image + 2) (parties_at image) call) refl
     where
-      go : (clear : Bool) → eqb (gate (max_at image + 2) (parties_at image) call) 0 ≡ clear
-          → clear && not (is_spare (version_at image) image (party_place image (party_of call))) ≡ false
-      go true e =
-          let known = (past_gate (max_at image + 2) (parties_at image) call (eqb-true (gate (max_at image + 2) (parties_at image) call) 0 e)).party_known in
+      go : (check : Check) → gate (max_at image + 2) (parties_at image) call ≡ check
+          → is_ok check && not (is_spare (version_at image) image (party_place image (party_of call))) ≡ false
+      go (Ok done) e =
+          let known = (past_gate (max_at image + 2) (parties_at image) call e).party_known in
           rw (intact.spare (party_of call) known) refl
-      go false e = refl
+      go (Err refusal) e = refl
 
   -- A call on an intact image is the call on what the image spells, spelled back.
   pub an_intact_image_is_called_decoded : image_of image call ≡ encoded image (decoded image call)

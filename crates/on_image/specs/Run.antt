@@ -1,5 +1,8 @@
 -- A run on an image: calls one after the other, each on the bytes that the one before left.
 use Rattle.std.specs.Prelude.{ℕ, ◌*◌, ◌≡◌, List, [], ◌∷◌, map, drop, replicate}
+use Rattle.std.specs.declared.result.Result.{Result}
+use Rattle.refusal.specs.declared.Refusal.{Refusal}
+use Rattle.refusal.specs.Refusal.{passes}
 use Rattle.little.specs.Bytes.{AreBytes}
 use Rattle.party.specs.Answer.{number_of, carried_of}
 use Rattle.party.specs.declared.Answer.{Answer}
@@ -17,13 +20,13 @@ use Rattle.on_image.specs.Intact.{Intact}
 -- zero bytes.
 pub record Begins (image : List ℕ) (p : Plain) (parties : ℕ) : Type 0 where
   pub bytes : AreBytes image
-  pub taken : header_refusal image ≡ 0
+  pub taken : header_refusal image ≡ passes
   pub for_parties : parties_at image ≡ parties
   pub stands : StandsFor (strip_of image) p
   pub idle : drop (records_in image) image ≡ replicate (32 * parties) 0
 
 -- what each call is answered, and the bytes after the last
-unfoldable pub answers_on : (image : List ℕ) → List Call → List Answer
+unfoldable pub answers_on : (image : List ℕ) → List Call → List (Result Answer Refusal)
 answers_on image [] = []
 answers_on image (call ∷ calls) = (image_of image call).answer ∷ answers_on (image_of image call).image calls
 

@@ -7,6 +7,8 @@ use mathlib.Core.List.{List}
 use native.Mathlib.Omega.{arith}
 use Rattle.little.specs.Bytes.{AreBytes}
 use Rattle.party.specs.Answer.{is_refusal, number_of}
+use Rattle.std.specs.declared.result.Result.{Result}
+use Rattle.refusal.specs.declared.Refusal.{Refusal}
 use Rattle.party.specs.declared.Answer.{Answer}
 use Rattle.call.specs.Call.{Call}
 use Rattle.image.specs.Calls.{Done, image_of, lay_of, ImagePromise, RefusedLeaves}
@@ -18,7 +20,7 @@ pub an_answer_is_its_two_halves : (answer : ℕ) → pds_number answer + 4294967
 an_answer_is_its_two_halves answer = omega arith
 
 -- The answer of a call on an image, packed, keeps the promise of the C call.
-pub packs : {wanted : Done} {answer : Answer} {left : List ℕ} {packed : ℕ}
+pub packs : {wanted : Done} {answer : Result Answer Refusal} {left : List ℕ} {packed : ℕ}
     → ImagePromise wanted answer left → packed ≡ packed_of answer → PackedPromise wanted packed left
 packs kept e = record { packed = e ∙ ap packed_of kept.answered; bytes = kept.bytes }
 

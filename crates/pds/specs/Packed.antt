@@ -1,10 +1,12 @@
 -- The answer of a C call: number + 2^32 × carried order; and what pds.h reads from it.
 use Rattle.std.specs.Prelude.{ℕ, ◌+◌, ◌*◌, ◌/◌, ◌%◌, ◌≡◌, Bool, List}
 use Rattle.party.specs.Answer.{number_of, carried_of, is_refusal}
+use Rattle.std.specs.declared.result.Result.{Result}
+use Rattle.refusal.specs.declared.Refusal.{Refusal}
 use Rattle.party.specs.declared.Answer.{Answer}
 use Rattle.image.specs.Calls.{Done}
 
-abbrev pub packed_of : Answer → ℕ
+abbrev pub packed_of : Result Answer Refusal → ℕ
 packed_of answer = number_of answer + 4294967296 * carried_of answer
 
 -- pds_number: the low half

@@ -8,9 +8,10 @@ ghost use Rattle.pds.specs.Packed.{packed_of, PackedPromise};
 
 use image::{lay, start, step, withdraw};
 use party::{Answer, carried, number};
+use refusal::Refusal;
 
 // Number + 2^32 × carried order.
-fn packed(answer: Answer) -> u64
+fn packed(answer: Result<Answer, Refusal>) -> u64
     ensures { result ≡ packed_of answer }
 {
     number(answer) as u64 + carried(answer) as u64 * 4294967296

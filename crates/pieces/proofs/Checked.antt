@@ -5,15 +5,20 @@ use mathlib.Core.Bool.{true, false, not}
 use mathlib.Core.List.{List}
 use lib.ListN.{length}
 use lib.Dec.{eqb, leb}
-use borrow.Author.Tests.{eqb-true, leb-true, le-leb, not-false, ne_eqb}
+use borrow.Author.Tests.{eqb-true, leb-true, le-leb, not-false}
 use native.Mathlib.Omega.{arith}
-use Rattle.logic.proofs.Bools.{both, passed}
+use Rattle.std.specs.declared.result.Result.TheVariants.{Err}
+use Rattle.logic.proofs.Bools.{both}
+use Rattle.refusal.specs.declared.Refusal.{Refusal}
+use Rattle.refusal.specs.declared.Refusal.TheVariants.{WrongSize, NotValid}
+use Rattle.refusal.specs.Refusal.{passes}
+use Rattle.refusal.proofs.Checks.{passed}
 use Rattle.step.specs.Step.{strip_fits, max_of}
 use Rattle.call.specs.Call.{table_fits}
 use Rattle.header.specs.Header.{max_at, parties_at, version_at}
 use Rattle.format.specs.Format.{word_place, length_of, header_refusal, words_base}
 use Rattle.format.proofs.Sizes.{header_sized}
-use Rattle.format.proofs.Gated.{passed_number}
+use Rattle.format.proofs.Gated.{both_pass}
 use Rattle.pieces.specs.Pieces.{all_below, lent_fits, is_sound, agrees, read_refusal, sizes_agree}
 
 -- a strip and a table that may be lent
@@ -40,45 +45,45 @@ is_lent words parties right =
     rw (le-leb 3 words right.least, le-leb words 4096 right.most, le-leb 1 parties right.some, le-leb parties 16 right.few) refl
 
 module _ (image : List ℕ) (words parties : ℕ) where
-  pub refused_by_lent : lent_fits words parties ≡ false → read_refusal image words parties ≡ 1
+  pub refused_by_lent : lent_fits words parties ≡ false → read_refusal image words parties ≡ Err WrongSize
   unfolding read_refusal
   refused_by_lent no-fit = rw no-fit refl
 
   module _ (fit : lent_fits words parties ≡ true) where
-    pub refused_by_header : (header_refusal image ≡ 0 → ⊥) → read_refusal image words parties ≡ header_refusal image
+    pub refused_by_header : (refusal : Refusal) → header_refusal image ≡ Err refusal → read_refusal image words parties ≡ Err refusal
     unfolding read_refusal
-    refused_by_header some = rw (fit, ne_eqb (header_refusal image) 0 some) refl
+    refused_by_header refusal some = rw (fit, some) refl
 
-    module _ (taken : header_refusal image ≡ 0) where
-      pub refused_by_lengths : agrees image words parties ≡ false → read_refusal image words parties ≡ 1
+    module _ (taken : header_refusal image ≡ passes) where
+      pub refused_by_lengths : agrees image words parties ≡ false → read_refusal image words parties ≡ Err WrongSize
       unfolding read_refusal
       refused_by_lengths differ = rw (fit, taken, differ) refl
 
       module _ (agree : agrees image words parties ≡ true) where
-        pub refused_by_records : all_below (is_sound image (max_at image)) (parties_at image) ≡ false → read_refusal image words parties ≡ 4
+        pub refused_by_records : all_below (is_sound image (max_at image)) (parties_at image) ≡ false → read_refusal image words parties ≡ Err NotValid
         unfolding read_refusal
         refused_by_records unsound = rw (fit, taken, agree, unsound) refl
 
-        pub refused_by_none : all_below (is_sound image (max_at image)) (parties_at image) ≡ true → read_refusal image words parties ≡ 0
+        pub refused_by_none : all_below (is_sound image (max_at image)) (parties_at image) ≡ true → read_refusal image words parties ≡ passes
         unfolding read_refusal
         refused_by_none sound = rw (fit, taken, agree, sound) refl
 
 -- an image that is read
 pub record Readable (image : List ℕ) (words parties : ℕ) : Type 0 where
-  pub taken : header_refusal image ≡ 0
+  pub taken : header_refusal image ≡ passes
   pub lent_right : Lent words parties
   pub words_agree : words ≡ max_at image + 2
   pub parties_agree : parties ≡ parties_at image
   pub sound : all_below (is_sound image (max_at image)) (parties_at image) ≡ true
   pub exact : length image ≡ length_of (version_at image) (max_at image) (parties_at image)
 
-pub readable : (image : List ℕ) (words parties : ℕ) → read_refusal image words parties ≡ 0 → Readable image words parties
+pub readable : (image : List ℕ) (words parties : ℕ) → read_refusal image words parties ≡ passes → Readable image words parties
 unfolding read_refusal
 readable image words parties e =
-    let past1 = passed (not (lent_fits words parties)) 0 _ e in
-    let past2 = passed_number (header_refusal image) _ past1.1 in
-    let past3 = passed (not (agrees image words parties)) 0 _ past2.1 in
-    let past4 = passed (not (all_below (is_sound image (max_at image)) (parties_at image))) 3 0 past3.1 in
+    let past1 = passed (not (lent_fits words parties)) _ _ e in
+    let past2 = both_pass (header_refusal image) _ past1.1 in
+    let past3 = passed (not (agrees image words parties)) _ _ past2.1 in
+    let past4 = passed (not (all_below (is_sound image (max_at image)) (parties_at image))) _ passes past3.1 in
     let agree = both (eqb words (max_at image + 2)) (eqb parties (parties_at image)) (not-false _ past3.0) in
     record {
       taken = past2.0;

@@ -1,6 +1,10 @@
 -- A whole image piece by piece: the checks of reading one, the sizes of one that is written, and a record with its spare bytes.
 use Rattle.std.specs.Prelude.{ℕ, zero, suc, ◌+◌, Bool, true, not, ◌&&◌, List, ◌++◌, eqb}
+use Rattle.std.specs.declared.result.Result.TheVariants.{Err}
+use Rattle.std.specs.Result.{result_and}
 use Rattle.logic.specs.Pick.{pick}
+use Rattle.refusal.specs.declared.Refusal.TheVariants.{WrongSize, NotValid}
+use Rattle.refusal.specs.Refusal.{Check, passes}
 use Rattle.record.specs.Valid.{valid_of}
 use Rattle.record.specs.declared.Record.{Record}
 use Rattle.step.specs.Step.{strip_fits, max_of}
@@ -29,13 +33,13 @@ is_sound image max party = is_sound_at image max (record_place (records_base (ve
 abbrev pub agrees : (image : List ℕ) (words parties : ℕ) → Bool
 agrees image words parties = eqb words (max_at image + 2) && eqb parties (parties_at image)
 
--- Reading: 1 for the strip and table that are lent, the header's own 1, 2 and 1, then 1 where they do not agree with it, then 4.
-unfoldable pub read_refusal : (image : List ℕ) (words parties : ℕ) → ℕ
+-- Reading: the sizes of the strip and table that are lent, the header's own checks, that they agree with it, then every record.
+unfoldable pub read_refusal : (image : List ℕ) (words parties : ℕ) → Check
 read_refusal image words parties =
-    pick (not (lent_fits words parties)) 1
-    (pick (not (eqb (header_refusal image) 0)) (header_refusal image)
-    (pick (not (agrees image words parties)) 1
-    (pick (not (all_below (is_sound image (max_at image)) (parties_at image))) 4 0)))
+    pick (not (lent_fits words parties)) (Err WrongSize)
+    (result_and (header_refusal image)
+    (pick (not (agrees image words parties)) (Err WrongSize)
+    (pick (not (all_below (is_sound image (max_at image)) (parties_at image))) (Err NotValid) passes)))
 
 -- Writing makes images of version 1 and looks at no byte already there: the strip, the table and the exact length.
 abbrev pub sizes_agree : (bytes words parties : ℕ) → Bool

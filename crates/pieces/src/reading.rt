@@ -10,12 +10,13 @@ use call::table_fits;
 use format::WORDS;
 use format::fields::{is_spare, read_record};
 use format::gate::read_header;
-use little::number_8;
+use little::number;
 use record::Record;
-use record::valid::is_valid;
+use refusal::Refusal;
 use step::strip_fits;
 
-// The strip and the table that a caller lends, for reading and for writing.
+// The strip and the table that a caller lends, for reading and for writing. Two sizes and no type of them: docs/PROMISES.md names the
+// functions that take both.
 pub fn lent_fits(words: usize, parties: usize) -> bool
     ensures { result ≡ lent_fits words parties }
 {
@@ -27,40 +28,31 @@ fn is_sound(image: &[u8], max: u16, party: usize) -> bool
     ensures { result ≡ is_sound image.now max party }
 {
     let at = WORDS + 8 * (max as usize + 2) + 32 * party;
-    is_spare(image, at) & is_valid(max, read_record(image, at))
+    is_spare(image, at) & read_record(image, at).is_valid(max)
 }
 
 fn are_sound(image: &[u8], max: u16, parties: u8) -> bool
     requires { length_of (version_at image.now) max parties ≤ length image.now }
     ensures { result ≡ all_below (is_sound image.now max) parties }
 {
-    let mut all = true;
-    let mut i: usize = 0;
-    while i < parties as usize {
-        all = all & is_sound(image, max, i);
-        i += 1;
-    }
-    all
+    (0..parties as usize).all(|party| is_sound(image, max, party))
 }
 
 // All checks of reading, before anything is written.
-pub fn read_refusal(image: &[u8], words: usize, parties: usize) -> u32
+pub fn read_refusal(image: &[u8], words: usize, parties: usize) -> Result<(), Refusal>
     ensures { result ≡ read_refusal image.now words parties }
 {
     if !lent_fits(words, parties) {
-        return 1;
+        return Err(Refusal::WrongSize);
     }
-    let h = read_header(image);
-    if h.number != 0 {
-        return h.number;
-    }
+    let h = read_header(image)?;
     if !((words == h.max as usize + 2) & (parties == h.parties as usize)) {
-        return 1;
+        return Err(Refusal::WrongSize);
     }
     if !are_sound(image, h.max, h.parties) {
-        return 4;
+        return Err(Refusal::NotValid);
     }
-    0
+    Ok(())
 }
 
 // The words. Public for read, which calls it past its checks.
@@ -68,10 +60,8 @@ pub fn read_strip(image: &[u8], strip: &mut [u64])
     requires { word_place words_base (length strip.old) ≤ length image.now }
     ensures { strip.new ≡ words_from image.now words_base (length strip.old) }
 {
-    let mut i: usize = 0;
-    while i < strip.len() {
-        strip[i] = number_8(image, WORDS + 8 * i);
-        i += 1;
+    for (i, word) in strip.iter_mut().enumerate() {
+        *word = number::<8>(image, WORDS + 8 * i);
     }
 }
 

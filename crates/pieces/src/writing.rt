@@ -2,7 +2,10 @@
 // Public for the calls on whole images: past the checks, these ask that the bytes lie inside.
 ghost use Rattle.std.specs.Prelude.{◌≡◌, not, ◌+◌, ◌*◌, ◌≤◌, length};
 ghost use Rattle.std.proofs.lemmas.List.Edits.{sets};
+ghost use Rattle.std.specs.declared.result.Result.TheVariants.{Err};
 ghost use Rattle.logic.specs.Pick.{pick};
+ghost use Rattle.refusal.specs.declared.Refusal.TheVariants.{WrongSize, NotValid};
+ghost use Rattle.refusal.specs.Refusal.{passes};
 ghost use Rattle.record.specs.Valid.{valid_of};
 ghost use Rattle.step.specs.Step.{max_of};
 ghost use Rattle.format.specs.Format.{word_place, words_base, record_place};
@@ -14,37 +17,41 @@ use crate::reading::lent_fits;
 use format::WORDS;
 use format::fields::write_record;
 use format::fresh::lay_header;
-use little::put_8;
-use logic::pick_u32;
+use little::put;
 use record::Record;
-use record::valid::is_valid;
+use refusal::Refusal;
 
 // The sizes alone: no byte is looked at.
-pub fn sizes_refusal(bytes: usize, words: usize, parties: usize) -> u32
-    ensures { result ≡ pick (not (sizes_agree bytes words parties)) 1 0 }
+pub fn sizes_refusal(bytes: usize, words: usize, parties: usize) -> Result<(), Refusal>
+    ensures { result ≡ pick (not (sizes_agree bytes words parties)) (Err WrongSize) passes }
 {
     if !lent_fits(words, parties) {
-        return 1;
+        return Err(Refusal::WrongSize);
     }
-    pick_u32(!(bytes == WORDS + 8 * words + 32 * parties), 1, 0)
+    if bytes != WORDS + 8 * words + 32 * parties {
+        return Err(Refusal::WrongSize);
+    }
+    Ok(())
 }
 
-// The number so far, and 4 from the first record on that is not valid. Public for write, which calls it past its check of the sizes.
-pub fn next_refusal(number: u32, words: usize, r: Record) -> u32
+// What the records so far are refused for, and NotValid from the first on that is not valid. Public for write, which calls it past its
+// check of the sizes. It takes what came before, not `?` at each record: docs/PROMISES.md names it, and write_a_record_not_valid forgets.
+pub fn next_refusal(so_far: Result<(), Refusal>, words: usize, r: Record) -> Result<(), Refusal>
     requires { (2 ≤ words) × (words ≤ 4096) }
-    ensures { result ≡ pick (valid_of (max_of words) r) number 4 }
+    ensures { result ≡ pick (valid_of (max_of words) r) so_far (Err NotValid) }
 {
-    pick_u32(is_valid((words - 2) as u16, r), number, 4)
+    if !r.is_valid((words - 2) as u16) {
+        return Err(Refusal::NotValid);
+    }
+    so_far
 }
 
 fn write_words(image: &mut [u8], strip: &[u64])
     requires { word_place words_base (length strip.now) ≤ length image.old }
     ensures { image.new ≡ sets image.old words_base (word_bytes strip.now) }
 {
-    let mut i: usize = 0;
-    while i < strip.len() {
-        put_8(image, WORDS + 8 * i, strip[i]);
-        i += 1;
+    for (i, word) in strip.iter().enumerate() {
+        put::<8>(image, WORDS + 8 * i, *word);
     }
 }
 
@@ -64,5 +71,5 @@ pub fn write_party(image: &mut [u8], words: usize, party: usize, r: Record)
 {
     let at = WORDS + 8 * words + 32 * party;
     write_record(image, at, r);
-    put_8(image, at + 24, 0);
+    put::<8>(image, at + 24, 0);
 }

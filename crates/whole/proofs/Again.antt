@@ -9,6 +9,7 @@ use lib.Dec.{eqb}
 use borrow.Author.Tests.{eqb-true, eq-eqb}
 use native.Mathlib.Omega.{arith}
 use Rattle.logic.proofs.Bools.{both}
+use Rattle.refusal.specs.Refusal.{Check, passes}
 use Rattle.record.specs.Valid.{valid_of}
 use Rattle.record.specs.declared.Record.{Record}
 use Rattle.step.specs.Step.{max_of}
@@ -85,7 +86,7 @@ module _ (image : List ℕ) (words parties : ℕ) (fits : Readable image words p
       ∙ rw (max_of_lem, table_length image, ← marked.1, header_is_laid image are marked.0, words_are_laid image are, place)
       (records_are_laid (version_at image) (parties_at image) image (records_in image) are spare)
 
-  pub is_written : (bytes : ℕ) → bytes ≡ length image → write_refusal bytes (length (strip_of image)) (table_of image) ≡ 0
+  pub is_written : (bytes : ℕ) → bytes ≡ length image → write_refusal bytes (length (strip_of image)) (table_of image) ≡ passes
   unfolding write_refusal
   is_written bytes same =
       let lent = is_lent words parties fits.lent_right in
@@ -99,15 +100,15 @@ module _ (image : List ℕ) (words parties : ℕ) (fits : Readable image words p
       rw (sizes, valid) refl
 
 -- An image that `read` takes, written from the strip and table it left over any region of its length, is the same bytes.
-pub read_then_written_is_the_same : (image strip : List ℕ) (table : List Record) (words : List ℕ) (records : List Record) (region : List ℕ) (number : ℕ) (bytes : List ℕ)
-    → AreBytes image → ReadPromise image strip table 0 words records → length region ≡ length image → WritePromise region words records number bytes
-    → (number ≡ 0) × (bytes ≡ image)
-read_then_written_is_the_same image strip table words records region number bytes are read same written =
-    let clear = sym read.number_read in
+pub read_then_written_is_the_same : (image strip : List ℕ) (table : List Record) (words : List ℕ) (records : List Record) (region : List ℕ) (check : Check) (bytes : List ℕ)
+    → AreBytes image → ReadPromise image strip table passes words records → length region ≡ length image → WritePromise region words records check bytes
+    → (check ≡ passes) × (bytes ≡ image)
+read_then_written_is_the_same image strip table words records region check bytes are read same written =
+    let clear = sym read.check_read in
     let fits = readable image (length strip) (length table) clear in
     let w : words ≡ strip_of image = read.words_read ∙ rw clear refl in
     let r : records ≡ table_of image = read.records_read ∙ rw clear refl in
-    let done : write_refusal (length region) (length words) records ≡ 0 = rw (w, r) (is_written image (length strip) (length table) fits (length region) same) in (
-      written.number_written ∙ done,
+    let done : write_refusal (length region) (length words) records ≡ passes = rw (w, r) (is_written image (length strip) (length table) fits (length region) same) in (
+      written.check_written ∙ done,
       written.bytes_written ∙ rw done (rw (w, r) (spelled_is_written image (length strip) (length table) fits are)),
     )

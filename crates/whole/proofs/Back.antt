@@ -9,7 +9,8 @@ use lib.Dec.{eqb}
 use borrow.Author.Tests.{eq-eqb, le-leb, le-ltb, not-false}
 use native.Mathlib.Omega.{arith}
 use Rattle.logic.specs.Every.{Every}
-use Rattle.logic.proofs.Bools.{passed}
+use Rattle.refusal.specs.Refusal.{Check, passes}
+use Rattle.refusal.proofs.Checks.{passed}
 use Rattle.word.specs.Word.{IsWord}
 use Rattle.record.specs.Record.{idle}
 use Rattle.record.specs.declared.Record.{Record}
@@ -85,7 +86,7 @@ module _ (strip : List ℕ) (table : List Record) (right : Lent (length strip) (
       rw (max_is, parties_are, le-leb 1 (max_of (length strip)) (omega (arith, right.least)), le-leb (max_of (length strip)) 4094 (omega (arith, right.most)), le-leb 1 (length table) right.some, le-leb (length table) 16 right.few)
       (eq-eqb (length bytes) (length_of 1 (max_of (length strip)) (length table)) (omega (arith, length_written strip table, right.least)))
 
-  is_taken : header_refusal bytes ≡ 0
+  is_taken : header_refusal bytes ≡ passes
   unfolding header_refusal
   is_taken = rw (le-ltb (length bytes) 8 (omega (arith, length_written strip table)), version_is, is_sized) refl
 
@@ -139,7 +140,7 @@ module _ (strip : List ℕ) (table : List Record) (right : Lent (length strip) (
       ∙ laid_spare table worded (word_place words_base (length strip)) i h (omega (arith, worded_length))
 
   -- every check of reading passes
-  pub is_readable : Every RecordFits idle table → all_below (is_valid_in (length strip) table) (length table) ≡ true → read_refusal bytes (length strip) (length table) ≡ 0
+  pub is_readable : Every RecordFits idle table → all_below (is_valid_in (length strip) table) (length table) ≡ true → read_refusal bytes (length strip) (length table) ≡ passes
   is_readable fit valid =
       let each : (i : ℕ) → i < length table → is_sound bytes (max_at bytes) i ≡ true =
       λ i h. rw (version_is, place_of i, spare_at i h, record_read fit i h, max_is) (each_below (is_valid_in (length strip) table) (length table) valid i h) in
@@ -150,21 +151,21 @@ module _ (strip : List ℕ) (table : List Record) (right : Lent (length strip) (
       refused_by_none bytes (length strip) (length table) (is_lent (length strip) (length table) right) is_taken (rw (words, parties) refl) sound
 
 -- A strip and a table that `write` takes, read from the bytes it left into a strip and a table of their lengths, are the same.
-pub written_then_read_is_the_same : (image strip : List ℕ) (table : List Record) (bytes strip' : List ℕ) (table' : List Record) (number : ℕ) (words : List ℕ) (records : List Record)
-    → Every IsWord 0 strip → Every RecordFits idle table → WritePromise image strip table 0 bytes
-    → length strip' ≡ length strip → length table' ≡ length table → ReadPromise bytes strip' table' number words records
-    → (number ≡ 0) × ((words ≡ strip) × (records ≡ table))
+pub written_then_read_is_the_same : (image strip : List ℕ) (table : List Record) (bytes strip' : List ℕ) (table' : List Record) (check : Check) (words : List ℕ) (records : List Record)
+    → Every IsWord 0 strip → Every RecordFits idle table → WritePromise image strip table passes bytes
+    → length strip' ≡ length strip → length table' ≡ length table → ReadPromise bytes strip' table' check words records
+    → (check ≡ passes) × ((words ≡ strip) × (records ≡ table))
 unfolding write_refusal
-written_then_read_is_the_same image strip table bytes strip' table' number words records word_fits record-fits written same_words same-parties read =
-    let clear = sym written.number_written in
+written_then_read_is_the_same image strip table bytes strip' table' check words records word_fits record-fits written same_words same-parties read =
+    let clear = sym written.check_written in
     let fit = sizes_agree (length image) (length strip) (length table) in
     let valid = all_below (is_valid_in (length strip) table) (length table) in
-    let past1 = passed (not fit) 0 _ clear in
-    let past4 = passed (not valid) 3 0 past1.1 in
+    let past1 = passed (not fit) _ _ clear in
+    let past4 = passed (not valid) _ passes past1.1 in
     let right = (writable (length image) (length strip) (length table) (not-false fit past1.0)).lent_right in
     let is : bytes ≡ written_of strip table = written.bytes_written ∙ rw clear refl in
-    let done : read_refusal bytes (length strip') (length table') ≡ 0 = rw (is, same_words, same-parties) (is_readable strip table right record-fits (not-false valid past4.0)) in (
-      read.number_read ∙ done,
+    let done : read_refusal bytes (length strip') (length table') ≡ passes = rw (is, same_words, same-parties) (is_readable strip table right record-fits (not-false valid past4.0)) in (
+      read.check_read ∙ done,
       (
         read.words_read ∙ rw (done, is) (strip_is_read strip table right word_fits),
         read.records_read ∙ rw (done, is) (table_is_read strip table right record-fits),

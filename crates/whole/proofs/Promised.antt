@@ -5,10 +5,14 @@ use mathlib.Core.Bool.{Bool, true, false, not}
 use mathlib.Core.List.{List}
 use lib.ListN.{length}
 use lib.Seq.{sets}
-use borrow.Author.Tests.{eq-eqb, ne_eqb, not-false}
+use borrow.Author.Tests.{not-false}
 use native.Mathlib.Omega.{arith}
+use Rattle.std.specs.declared.result.Result.TheVariants.{Err}
 use Rattle.logic.specs.Pick.{pick}
-use Rattle.logic.proofs.Bools.{passed}
+use Rattle.refusal.specs.declared.Refusal.{Refusal}
+use Rattle.refusal.specs.declared.Refusal.TheVariants.{WrongSize, NotValid}
+use Rattle.refusal.specs.Refusal.{Check, passes}
+use Rattle.refusal.proofs.Checks.{passed, refuses_is_not_passes}
 use Rattle.record.specs.declared.Record.{Record}
 use Rattle.format.specs.Format.{word_place, words_base, records_in}
 use Rattle.step.specs.Step.{max_of}
@@ -21,15 +25,15 @@ use Rattle.whole.proofs.Found.{found_by}
 use Rattle.whole.proofs.Laid.{written_laid}
 use Rattle.pieces.proofs.Checked.{Readable, readable, Writable, writable}
 
-module _ (image strip : List ℕ) (table : List Record) (n : ℕ) (checked : n ≡ read_refusal image (length strip) (length table)) where
-  -- the checks refuse: their number, and nothing is written
-  pub read_refused : (n ≡ 0 → ⊥) → ReadPromise image strip table n strip table
-  read_refused some =
-      let test = ne_eqb (read_refusal image (length strip) (length table)) 0 (λ none. some (checked ∙ none)) in
-      record { number_read = checked; words_read = rw test refl; records_read = rw test refl }
+module _ (image strip : List ℕ) (table : List Record) (check : Check) (checked : check ≡ read_refusal image (length strip) (length table)) where
+  -- the checks refuse: nothing is written
+  pub read_refused : (refusal : Refusal) → check ≡ Err refusal → ReadPromise image strip table (Err refusal) strip table
+  read_refused refusal some =
+      let refused = sym checked ∙ some in
+      record { check_read = sym refused; words_read = rw refused refl; records_read = rw refused refl }
 
-  module _ (none : n ≡ 0) where
-    clear : read_refusal image (length strip) (length table) ≡ 0
+  module _ (none : check ≡ passes) where
+    clear : read_refusal image (length strip) (length table) ≡ passes
     clear = sym checked ∙ none
 
     fits : Readable image (length strip) (length table)
@@ -44,45 +48,44 @@ module _ (image strip : List ℕ) (table : List Record) (n : ℕ) (checked : n �
 
     -- they pass: the words and the records of the image
     pub read_done : (words : List ℕ) (records : List Record) → words ≡ words_from image words_base (length strip)
-        → records ≡ records_from (version_at image) image (word_place words_base (length strip)) (length table) → ReadPromise image strip table 0 words records
+        → records ≡ records_from (version_at image) image (word_place words_base (length strip)) (length table) → ReadPromise image strip table passes words records
     read_done words records ws rs =
-        let test = eq-eqb (read_refusal image (length strip) (length table)) 0 clear in
         let place : word_place words_base (length strip) ≡ records_in image = omega (arith, fits.words_agree) in
         record {
-          number_read = sym clear;
-          words_read = ws ∙ ap (words_from image words_base) fits.words_agree ∙ rw test refl;
+          check_read = sym clear;
+          words_read = ws ∙ ap (words_from image words_base) fits.words_agree ∙ rw clear refl;
           records_read = rs ∙ ap (λ (at : ℕ). records_from (version_at image) image at (length table)) place
-              ∙ ap (records_from (version_at image) image (records_in image)) fits.parties_agree ∙ rw test refl;
+              ∙ ap (records_from (version_at image) image (records_in image)) fits.parties_agree ∙ rw clear refl;
         }
 
 -- Writing: the sizes are checked first, then the records.
-module _ (image strip : List ℕ) (table : List Record) (n : ℕ) (checked : n ≡ pick (not (sizes_agree (length image) (length strip) (length table))) 1 0) where
-  abbrev refusal : ℕ
-  refusal = write_refusal (length image) (length strip) table
+module _ (image strip : List ℕ) (table : List Record) (check : Check) (checked : check ≡ pick (not (sizes_agree (length image) (length strip) (length table))) (Err WrongSize) passes) where
+  abbrev whole : Check
+  whole = write_refusal (length image) (length strip) table
 
   abbrev fit : Bool
   fit = sizes_agree (length image) (length strip) (length table)
 
-  -- a number that is the refusal's: nothing is written
-  kept : (m : ℕ) → m ≡ refusal → (m ≡ 0 → ⊥) → WritePromise image strip table m image
-  kept m e some =
-      let test = ne_eqb refusal 0 (λ none. some (e ∙ none)) in
-      record { number_written = e; bytes_written = rw test refl }
+  -- a refusal that is the whole check's: nothing is written
+  kept : (refusal : Refusal) → whole ≡ Err refusal → WritePromise image strip table (Err refusal) image
+  kept refusal e = record { check_written = sym e; bytes_written = rw e refl }
 
-  unfit : (n ≡ 0 → ⊥) → fit ≡ false
-  unfit some = go fit refl
+  unfit : (refusal : Refusal) → check ≡ Err refusal → fit ≡ false
+  unfit refusal some = go fit refl
     where
       go : (t : Bool) → fit ≡ t → t ≡ false
-      go true e = absurd (some (checked ∙ rw e refl))
+      go true e = absurd (refuses_is_not_passes some (checked ∙ rw e refl))
       go false e = refl
 
-  pub sizes_refused : (n ≡ 0 → ⊥) → WritePromise image strip table n image
+  pub sizes_refused : (refusal : Refusal) → check ≡ Err refusal → WritePromise image strip table (Err refusal) image
   unfolding write_refusal
-  sizes_refused some = kept n (checked ∙ rw (unfit some) refl) some
+  sizes_refused refusal some =
+      let differ = unfit refusal some in
+      kept refusal (rw differ (sym (rw differ at checked) ∙ some))
 
-  module _ (none : n ≡ 0) where
+  module _ (none : check ≡ passes) where
     agree : fit ≡ true
-    agree = not-false fit (passed (not fit) 0 0 (sym checked ∙ none)).0
+    agree = not-false fit (passed (not fit) _ passes (sym checked ∙ none)).0
 
     sizes : Writable (length image) (length strip) (length table)
     sizes = writable (length image) (length strip) (length table) agree
@@ -97,28 +100,27 @@ module _ (image strip : List ℕ) (table : List Record) (n : ℕ) (checked : n �
     pub table_inside : (front : List ℕ) → length front ≡ length image → word_place words_base (length strip) + 32 * length table ≤ length front
     table_inside front long = omega (arith, sizes.exact, long)
 
-    module _ (m : ℕ) (looked : m ≡ pick (all_below (is_valid_in (length strip) table) (length table)) 0 4) where
+    module _ (looks : Check) (looked : looks ≡ pick (all_below (is_valid_in (length strip) table) (length table)) passes (Err NotValid)) where
       abbrev all_valid : Bool
       all_valid = all_below (is_valid_in (length strip) table) (length table)
 
-      turned : pick all_valid 0 4 ≡ refusal
+      turned : pick all_valid passes (Err NotValid) ≡ whole
       unfolding write_refusal
       turned = rw agree (go all_valid)
         where
-          go : (t : Bool) → found_by t ≡ pick (not t) 4 0
+          go : (t : Bool) → found_by t ≡ pick (not t) (Err NotValid) passes
           go true = refl
           go false = refl
 
-      pub records_refused : (m ≡ 0 → ⊥) → WritePromise image strip table m image
-      records_refused some = kept m (looked ∙ turned) some
+      pub records_refused : (refusal : Refusal) → looks ≡ Err refusal → WritePromise image strip table (Err refusal) image
+      records_refused refusal some = kept refusal (sym turned ∙ sym looked ∙ some)
 
-      pub write_done : m ≡ 0 → (front bytes : List ℕ) → front ≡ sets (sets image 0 (header_bytes 1 (max_of (length strip)) (length table))) words_base (word_bytes strip)
-          → bytes ≡ sets front (word_place words_base (length strip)) (table_bytes 1 table) → WritePromise image strip table 0 bytes
-      write_done zero front bytes laid last =
-          let clear = sym turned ∙ sym looked ∙ zero in
-          let test = eq-eqb refusal 0 clear in
+      pub write_done : looks ≡ passes → (front bytes : List ℕ) → front ≡ sets (sets image 0 (header_bytes 1 (max_of (length strip)) (length table))) words_base (word_bytes strip)
+          → bytes ≡ sets front (word_place words_base (length strip)) (table_bytes 1 table) → WritePromise image strip table passes bytes
+      write_done all front bytes laid last =
+          let clear = sym turned ∙ sym looked ∙ all in
           record {
-            number_written = sym clear;
+            check_written = sym clear;
             bytes_written = last ∙ ap (λ (l : List ℕ). sets l (word_place words_base (length strip)) (table_bytes 1 table)) laid
-                ∙ written_laid image strip table sizes.exact ∙ rw test refl;
+                ∙ written_laid image strip table sizes.exact ∙ rw clear refl;
           }

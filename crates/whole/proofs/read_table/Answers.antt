@@ -9,18 +9,16 @@ use Rattle.format.proofs.Records.{record_part}
 use Rattle.pieces.proofs.Filled.{one_more_read, all_records_read}
 use Rattle.whole.proofs.read_table.Goals as goal
 
-pub loop-filled-preserved : goal.loop-filled-preserved
-loop-filled-preserved c =
-    let loop = c.loop-filled in
+pub loop-party-preserved : goal.loop-party-preserved
+loop-party-preserved c =
+    let loop = c.loop-party in
     let image = c.args.image.now in
-    let at = word_place words_base c.args.words in (
-      omega arith,
-      ap (λ (r : Record). set loop.table loop.filled r) c.record_in.ensures
-          ∙ ap (λ (l : List Record). set l loop.filled (record_at (version_at image) image (record_place at loop.filled))) loop.invariant.1
-          ∙ one_more_read (record_part (version_at image)) idle image at c.args.table.now loop.filled (omega arith),
-    )
+    let at = word_place words_base c.args.words in
+    ap (λ (r : Record). set loop.table loop.party r) c.record_in.ensures
+    ∙ ap (λ (l : List Record). set l loop.party (record_at (version_at image) image (record_place at loop.party))) loop.invariant
+    ∙ one_more_read (record_part (version_at image)) idle image at c.args.table.now loop.party (omega arith)
 
 pub returns : goal.returns
 returns c =
-    let loop = c.loop-filled in
-    loop.invariant.1 ∙ all_records_read c.args.image.now (word_place words_base c.args.words) c.args.table.now loop.filled (omega arith)
+    let loop = c.loop-party in
+    loop.invariant ∙ all_records_read c.args.image.now (word_place words_base c.args.words) c.args.table.now loop.party (omega arith)

@@ -7,17 +7,15 @@ use Rattle.whole.specs.Whole.{table_bytes}
 use Rattle.whole.proofs.Laid.{one_record_more}
 use Rattle.whole.proofs.write_table.Goals as goal
 
-pub loop-laid-init : goal.loop-laid-init
+pub loop-party-init : goal.loop-party-init
 unfolding table_bytes
-loop-laid-init c = (omega arith, refl)
+loop-party-init c = refl
 
-pub loop-laid-preserved : goal.loop-laid-preserved
-loop-laid-preserved c =
-    let loop = c.loop-laid in
+pub loop-party-preserved : goal.loop-party-preserved
+loop-party-preserved c =
+    let loop = c.loop-party in
     let table = c.args.table.now in
-    let at = word_place words_base c.args.words in (
-      omega arith,
-      c.write_party.ensures
-          ∙ ap (λ (l : List ℕ). sets l (record_place at loop.laid) (party_bytes 1 (get_or table loop.laid idle))) loop.invariant.1
-          ∙ one_record_more 1 c.args.image.now at table loop.laid (omega arith),
-    )
+    let at = word_place words_base c.args.words in
+    c.write_party.ensures
+    ∙ ap (λ (l : List ℕ). sets l (record_place at loop.party) (party_bytes 1 (get_or table loop.party idle))) loop.invariant
+    ∙ one_record_more 1 c.args.image.now at table loop.party (omega arith)

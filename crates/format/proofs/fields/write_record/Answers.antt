@@ -10,9 +10,9 @@ returns c =
     let at = c.args.at in
     let r = c.args.r in
     let image = c.args.image.now in
-    c.put_8-2.ensures
+    c.put-4.ensures
     ∙ ap (λ (l : List ℕ). sets l (at + 16) (bytes_of 8 r.second))
-    (c.put_8.ensures
+    (c.put-3.ensures
     ∙ ap (λ (l : List ℕ). sets l (at + 8) (bytes_of 8 r.first))
-    (c.put_4.ensures ∙ ap (λ (l : List ℕ). sets l (at + 4) (bytes_of 4 r.v)) c.put_2.ensures))
+    (c.put-2.ensures ∙ ap (λ (l : List ℕ). sets l (at + 4) (bytes_of 4 r.v)) c.put.ensures))
     ∙ sym (laid_by_fields (version_at image) image at r)

@@ -8,6 +8,6 @@ use Rattle.format.proofs.fresh.lay_header.Goals as goal
 pub returns : goal.returns
 returns c =
     let a = c.args in
-    c.put_2-2.ensures
-    ∙ ap (λ (l : List ℕ). sets (set l 5 a.parties) 6 (bytes_of 2 a.max)) c.put_2.ensures
+    c.put-2.ensures
+    ∙ ap (λ (l : List ℕ). sets (set l 5 a.parties) 6 (bytes_of 2 a.max)) c.put.ensures
     ∙ sym (header_laid a.image.now a.version a.max a.parties)

@@ -1,18 +1,13 @@
-use Rattle.std.proofs.Common.{◌∙◌, Bool, ◌&&◌, refl, ap, arith}
-use Rattle.pieces.specs.Pieces.{all_below, is_sound}
-use Rattle.pieces.proofs.Below.{one_more_tested}
+use Rattle.std.proofs.Common.{◌∙◌, refl, arith, rules, tests}
+use Rattle.std.proofs.lemmas.Iterator.{YieldsList-from_range}
+use Rattle.std.proofs.lemmas.Iterator.Search.{all_from_yields_List}
+use Rattle.pieces.specs.Pieces.{is_sound}
+use Rattle.pieces.proofs.Below.{all_in_range}
 use Rattle.pieces.proofs.reading.are_sound.Goals as goal
 
-pub loop-i-init : goal.loop-i-init
-unfolding all_below
-loop-i-init c = (omega arith, refl)
-
-pub loop-i-preserved : goal.loop-i-preserved
-loop-i-preserved c =
-    let loop = c.loop-i in
-    let sound = is_sound c.args.image.now c.args.max in (
-      omega arith,
-      ap (λ (t : Bool). loop.all && t) c.is_sound-all.ensures
-          ∙ ap (λ (t : Bool). t && sound loop.i) loop.invariant.1
-          ∙ one_more_tested sound loop.i,
-    )
+pub returns : goal.returns
+returns c =
+    let a = c.args in
+    let sound = is_sound a.image.now a.max in
+    all_from_yields_List sound _ _ c.all.result c.all.ensures.ran (YieldsList-from_range 0 a.parties a.parties refl (omega arith)) (λ x b q k. search (rules, tests))
+    ∙ all_in_range sound a.parties

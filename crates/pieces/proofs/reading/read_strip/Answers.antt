@@ -10,14 +10,11 @@ pub loop-i-preserved : goal.loop-i-preserved
 loop-i-preserved c =
     let loop = c.loop-i in
     let image = c.args.image.now in
-    let strip = c.args.strip.now in (
-      omega arith,
-      ap (λ (w : ℕ). set loop.strip loop.i w) c.number_8.ensures
-          ∙ ap (λ (l : List ℕ). set l loop.i (number_at 8 image (word_place words_base loop.i))) loop.invariant.1
-          ∙ one_more_read word_part 0 image words_base strip loop.i (omega arith),
-    )
+    ap (λ (w : ℕ). set loop.strip loop.i w) c.number.ensures.spells
+    ∙ ap (λ (l : List ℕ). set l loop.i (number_at 8 image (word_place words_base loop.i))) loop.invariant
+    ∙ one_more_read word_part 0 image words_base c.args.strip.now loop.i (omega arith)
 
 pub returns : goal.returns
 returns c =
     let loop = c.loop-i in
-    loop.invariant.1 ∙ all_words_read c.args.image.now c.args.strip.now loop.i (omega arith)
+    loop.invariant ∙ all_words_read c.args.image.now c.args.strip.now loop.i (omega arith)

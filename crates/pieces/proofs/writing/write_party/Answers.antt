@@ -9,6 +9,6 @@ pub returns : goal.returns
 returns c =
     let a = c.args in
     let at = record_place (word_place words_base a.words) a.party in
-    c.put_8.ensures
+    c.put.ensures
     ∙ ap (λ (l : List ℕ). sets l (at + 24) (bytes_of 8 0)) c.write_record.ensures
     ∙ party_laid 1 a.image.now at a.r

@@ -8,14 +8,12 @@ use Rattle.pieces.proofs.writing.write_words.Goals as goal
 
 pub loop-i-init : goal.loop-i-init
 unfolding word_bytes
-loop-i-init c = (omega arith, refl)
+loop-i-init c = refl
 
 pub loop-i-preserved : goal.loop-i-preserved
 loop-i-preserved c =
     let loop = c.loop-i in
-    let strip = c.args.strip.now in (
-      omega arith,
-      c.put_8.ensures
-          ∙ ap (λ (l : List ℕ). sets l (word_place words_base loop.i) (bytes_of 8 (get_or strip loop.i 0))) loop.invariant.1
-          ∙ one_word_more strip c.args.image.now words_base loop.i (omega arith),
-    )
+    let strip = c.args.strip.now in
+    c.put.ensures
+    ∙ ap (λ (l : List ℕ). sets l (word_place words_base loop.i) (bytes_of 8 (get_or strip loop.i 0))) loop.invariant
+    ∙ one_word_more strip c.args.image.now words_base loop.i (omega arith)

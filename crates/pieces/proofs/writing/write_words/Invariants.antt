@@ -1,12 +1,8 @@
-use Rattle.std.proofs.Common.{◌≡◌, ◌≤◌, ◌-◌, length, take}
+use Rattle.std.proofs.Common.{◌≡◌, take}
 use Rattle.std.proofs.lemmas.List.Edits.{sets}
 use Rattle.format.specs.Format.{words_base}
 use Rattle.format.specs.Spelling.{word_bytes}
 use Rattle.pieces.proofs.writing.write_words.Given as goal
 
 abbrev pub invariant-loop-i : goal.invariant-loop-i
-invariant-loop-i l =
-    (l.i ≤ length l.strip) × (l.image ≡ sets l.initial.image words_base (word_bytes (take l.i l.strip)))
-
-abbrev pub decreases-loop-i : goal.decreases-loop-i
-decreases-loop-i l = length l.strip - l.i
+invariant-loop-i l = l.image ≡ sets l.initial.image words_base (word_bytes (take l.i l.strip))
