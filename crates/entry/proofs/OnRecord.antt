@@ -2,12 +2,13 @@
 -- holds the record, its promise leaves nothing open, and a refused one changes nothing.
 use Prim.Native.Nat.{ℕ}
 use mathlib.Core.Path.{◌≡◌, refl, sym, ◌∙◌}
-use mathlib.Core.Bool.{Bool, true, false}
 use mathlib.Core.List.{List}
 use lib.ListN.{length}
 use lib.Seq.{set-get_or}
-use lib.Dec.{eqb}
-use borrow.Author.Tests.{eqb-true, eqb-false, eq-eqb, ne_eqb}
+use Rattle.std.specs.declared.result.Result.TheVariants.{Err}
+use Rattle.refusal.specs.declared.Refusal.{Refusal}
+use Rattle.refusal.specs.Refusal.{passes}
+use Rattle.refusal.proofs.Checks.{Decided, decided}
 use Rattle.party.specs.Answer.{refused}
 use Rattle.record.specs.declared.Record.{Record}
 use Rattle.party.specs.declared.Answered.{Answered}
@@ -28,29 +29,26 @@ refused_own_changes_nothing strip r (withdraw party) =
     (refused_withdraw_changes_nothing (max_of (length strip)) r, λ h. refl)
 
 module _ (strip : List ℕ) (parties : ℕ) (r : Record) (call : Call) where
-  pub turned_away_lem : (gate (length strip) parties call ≡ 0 → ⊥)
-      → (on_record_of strip parties r call ≡ refused (gate (length strip) parties call) r) × (on_record_leaves strip parties r call ≡ strip)
+  pub turned_away_lem : (refusal : Refusal) → gate (length strip) parties call ≡ Err refusal
+      → (on_record_of strip parties r call ≡ refused refusal r) × (on_record_leaves strip parties r call ≡ strip)
   unfolding on_record_of on_record_leaves
-  turned_away_lem barred = simp (ne_eqb _ _ barred) (refl, refl)
+  turned_away_lem refusal barred = simp barred (refl, refl)
 
-  pub let_through : gate (length strip) parties call ≡ 0
+  pub let_through : gate (length strip) parties call ≡ passes
       → (on_record_of strip parties r call ≡ own_of strip r call) × (on_record_leaves strip parties r call ≡ own_leaves strip r call)
   unfolding on_record_of on_record_leaves
-  let_through clear = simp (eq-eqb _ _ clear) (refl, refl)
+  let_through clear = simp clear (refl, refl)
 
   pub refused_on_record_changes_nothing : ChangesNothing strip r (on_record_of strip parties r call) (on_record_leaves strip parties r call)
-  refused_on_record_changes_nothing = go (eqb number 0) refl
+  refused_on_record_changes_nothing = go (decided (gate (length strip) parties call))
     where
-      number : ℕ
-      number = gate (length strip) parties call
-
-      go : (clear : Bool) → eqb number 0 ≡ clear
+      go : Decided (gate (length strip) parties call)
           → ChangesNothing strip r (on_record_of strip parties r call) (on_record_leaves strip parties r call)
-      go true e =
-          let own = let_through (eqb-true number 0 e) in
+      go (Decided.none clear) =
+          let own = let_through clear in
           rw (own.0, own.1) (refused_own_changes_nothing strip r call)
-      go false e =
-          let away = turned_away_lem (eqb-false number 0 e) in
+      go (Decided.some refusal barred) =
+          let away = turned_away_lem refusal barred in
           rw (away.0, away.1) (λ h. (refl, refl), λ h. refl)
 
   -- Two results that keep the promise are equal, and so are the words they leave.
@@ -62,17 +60,12 @@ module _ (strip : List ℕ) (parties : ℕ) (r : Record) (call : Call) where
 -- A call on a strip and a table is that call on its party's record.
 module _ (strip : List ℕ) (table : List Record) (call : Call) where
   pub a_call_is_on_its_record : call_of strip table call ≡ on_table strip table call
-  a_call_is_on_its_record = go (eqb number 0) refl
+  a_call_is_on_its_record = go (decided (gate (length strip) (length table) call))
     where
-      number : ℕ
-      number = gate (length strip) (length table) call
-
-      go : (clear : Bool) → eqb number 0 ≡ clear → call_of strip table call ≡ on_table strip table call
-      go true e =
-          let clear = eqb-true number 0 e in
+      go : Decided (gate (length strip) (length table) call) → call_of strip table call ≡ on_table strip table call
+      go (Decided.none clear) =
           let own = let_through strip (length table) (record_of table call) call clear in
           rw (call_through strip table call clear, own.0, own.1)
-      go false e =
-          let barred = eqb-false number 0 e in
-          let away = turned_away_lem strip (length table) (record_of table call) call barred in
-          rw (call_away strip table call barred, away.0, away.1, set-get_or)
+      go (Decided.some refusal barred) =
+          let away = turned_away_lem strip (length table) (record_of table call) call refusal barred in
+          rw (call_away strip table call refusal barred, away.0, away.1, set-get_or)

@@ -1,7 +1,7 @@
 -- A call on a strip and its party's own record, one of so many parties: what it answers, the record it gives back and the words it
 -- leaves.
-use Rattle.std.specs.Prelude.{ℕ, ◌≡◌, true, List, length, set, eqb}
-use Rattle.logic.specs.Pick.{pick}
+use Rattle.std.specs.Prelude.{ℕ, ◌≡◌, true, List, length, set}
+use Rattle.refusal.specs.Refusal.{if_passes}
 use Rattle.party.specs.Answer.{number_of, is_refusal, unless, RefusedKeeps}
 use Rattle.record.specs.declared.Record.{Record}
 use Rattle.party.specs.declared.Answered.{Answered}
@@ -12,7 +12,7 @@ unfoldable pub on_record_of : (strip : List ℕ) (parties : ℕ) → Record → 
 on_record_of strip parties r call = unless (gate (length strip) parties call) r (own_of strip r call)
 
 unfoldable pub on_record_leaves : (strip : List ℕ) (parties : ℕ) → Record → Call → List ℕ
-on_record_leaves strip parties r call = pick (eqb (gate (length strip) parties call) 0) (own_leaves strip r call) strip
+on_record_leaves strip parties r call = if_passes (gate (length strip) parties call) (own_leaves strip r call) strip
 
 -- of a table: its party's record is what the call gives back
 abbrev pub on_table : (strip : List ℕ) → List Record → Call → Left

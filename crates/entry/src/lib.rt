@@ -4,28 +4,23 @@
 ghost use Rattle.std.specs.Prelude.{◌≡◌, true, ◌+◌, ◌≤◌, length};
 ghost use Rattle.step.specs.Step.{strip_fits};
 ghost use Rattle.call.specs.Call.{party_of, is_unknown, gate, own_of, own_leaves};
-ghost use Rattle.entry.specs.Entry.{is_known, call_at, asked_of};
+ghost use Rattle.entry.specs.Entry.{call_at, asked_of};
 ghost use Rattle.entry.specs.OnRecord.{on_record_of, on_record_leaves};
 
 use call::gated;
-use little::number_4;
+use little::number;
 use party::Answered;
 use party::make::refused_with;
 use record::Record;
+use refusal::Refusal;
 
 // What an entry asks for, the party first: specs/Entry.antt gives the call for each case.
-// One that asks for nothing known is a start of operation 4.
+// One that asks for nothing known is a start of operation 4: the operation is a number, since an entry may ask for any.
 #[derive(Clone, Copy)]
 pub enum Entry {
     Start(u8, u8, u32),
     Step(u8, u32),
     Withdraw(u8),
-}
-
-fn is_known(act: u8, operation: u8, zero: u8, number: u32) -> bool
-    ensures { result ≡ is_known act operation zero number }
-{
-    (act <= 2) & (zero == 0) & ((act == 0) | (operation == 0)) & ((act <= 1) | (number == 0))
 }
 
 // The entry from byte `at` on. Public for the schedule, which has checked the file's length.
@@ -34,17 +29,13 @@ pub fn read(file: &[u8], at: usize) -> Entry
     requires { at + 8 ≤ length file.now }
     ensures { asked_of result ≡ call_at file.now at }
 {
-    let act = file[at];
     let party = file[at + 1];
-    let operation = file[at + 2];
-    let number = number_4(file, at + 4);
-    if !is_known(act, operation, file[at + 3], number) {
-        return Entry::Start(party, 4, 0);
-    }
-    match act {
-        0 => Entry::Start(party, operation, number),
-        1 => Entry::Step(party, number),
-        _ => Entry::Withdraw(party),
+    let number = number::<4>(file, at + 4) as u32;
+    match (file[at], file[at + 2], file[at + 3], number) {
+        (0, operation, 0, order) => Entry::Start(party, operation, order),
+        (1, 0, 0, hint) => Entry::Step(party, hint),
+        (2, 0, 0, 0) => Entry::Withdraw(party),
+        _ => Entry::Start(party, 4, 0),
     }
 }
 
@@ -53,25 +44,19 @@ pub fn party_of(e: Entry) -> u8
     ensures { result ≡ party_of (asked_of e) }
 {
     match e {
-        Entry::Start(party, _, _) => party,
-        Entry::Step(party, _) => party,
-        Entry::Withdraw(party) => party,
+        Entry::Start(party, ..) | Entry::Step(party, _) | Entry::Withdraw(party) => party,
     }
 }
 
 fn is_unknown(e: Entry) -> bool
     ensures { result ≡ is_unknown (asked_of e) }
 {
-    match e {
-        Entry::Start(_, operation, _) => 3 < operation,
-        Entry::Step(_, _) => false,
-        Entry::Withdraw(_) => false,
-    }
+    matches!(e, Entry::Start(_, 4.., _))
 }
 
 // The checks before the record's own.
 #[tactic(auto, unfolding(call::specs::Call::gate))]
-fn gate_of(words: usize, parties: u8, e: Entry) -> u32
+fn gate_of(words: usize, parties: u8, e: Entry) -> Result<(), Refusal>
     ensures { result ≡ gate words parties (asked_of e) }
 {
     gated(words, is_unknown(e), parties as usize, party_of(e) as u32)
@@ -98,9 +83,8 @@ pub fn on_record(strip: &mut [u64], parties: u8, r: Record, e: Entry) -> Answere
     ensures gives { result ≡ on_record_of strip.old parties r (asked_of e) }
     ensures words { strip.new ≡ on_record_leaves strip.old parties r (asked_of e) }
 {
-    let number = gate_of(strip.len(), parties, e);
-    if number != 0 {
-        return refused_with(number, r);
+    match gate_of(strip.len(), parties, e) {
+        Ok(()) => own(strip, r, e),
+        Err(refusal) => refused_with(refusal, r),
     }
-    own(strip, r, e)
 }

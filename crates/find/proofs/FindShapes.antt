@@ -7,6 +7,7 @@ use lib.ListN.{length}
 use lib.Dec.{eqb, leb}
 use borrow.Author.Tests.{eq-eqb, ne_eqb, eqb-true, eqb-false, leb-true, not-true}
 use native.Mathlib.Omega.{arith}
+use Rattle.std.specs.declared.result.Result.TheVariants.{Ok}
 use Rattle.logic.specs.Pick.{pick}
 use Rattle.logic.proofs.Bools.{both}
 use Rattle.word.specs.Word.{LN, RN, value_at}
@@ -16,13 +17,12 @@ use Rattle.step.proofs.Cleared.{strip_within}
 use Rattle.plain.specs.Plain.{Plain}
 use Rattle.strip.specs.Shape.{StandsFor, Bounds}
 use Rattle.find.specs.Find.{is_end, candidate, first_from, find_of}
-use Rattle.find.specs.declared.Found.TheVariants.{Place}
 use Rattle.find.proofs.Finding.{find_starts}
 use Rattle.strip.proofs.Shapes.{stands_for_bounds, past_left, before_right}
 
 -- The first candidate that passes, after `far` that do not.
 first_is : (test : ℕ → Bool) (places : ℕ → ℕ) (far i at left : ℕ) → i + far ≡ at → far < left → test (places at) ≡ true
-    → ((j : ℕ) → i ≤ j → j < at → test (places j) ≡ false) → first_from test places i left ≡ Place (places at)
+    → ((j : ℕ) → i ≤ j → j < at → test (places j) ≡ false) → first_from test places i left ≡ Ok (places at)
 unfolding first_from
 first_is test places far i at zero there inside end before = absurd (omega arith)
 first_is test places zero i at (suc left) there inside end before =
@@ -53,7 +53,7 @@ module _ (strip : List ℕ) (lo hi : ℕ) (b : Bounds strip lo hi) (fits : strip
   within : (3 ≤ length strip) × (length strip ≤ 4096)
   within = strip_within (length strip) fits
 
-  far_inside : (right : Bool) → far right < length strip - 1
+  far_inside : (right : Bool) → far right < max + 1
   far_inside true = omega arith
   far_inside false = omega (arith, within)
 
@@ -74,19 +74,19 @@ module _ (strip : List ℕ) (lo hi : ℕ) (b : Bounds strip lo hi) (fits : strip
   before_not_own true j h = before_right strip lo hi b (1 + j) (omega arith)
   before_not_own false j h = past_left strip lo hi b (max - j) (omega (arith, within)) (omega (arith, within))
 
-  pub find_on_a_shape : (operation : ℕ) → find_of operation strip ≡ Place (pick (is_right operation) hi (lo - 1))
+  pub find_on_a_shape : (operation : ℕ) → find_of operation strip ≡ Ok (pick (is_right operation) hi (lo - 1))
   find_on_a_shape operation =
       let right = is_right operation in
-      sym (find_starts operation strip 0 refl fits)
-      ∙ first_is (is_end operation strip) (candidate operation max) (far right) 0 (far right) (length strip - 1) (omega arith) (far_inside right)
+      sym (find_starts operation strip (max + 1) refl fits)
+      ∙ first_is (is_end operation strip) (candidate operation max) (far right) 0 (far right) (max + 1) (omega arith) (far_inside right)
       (rw (eq-eqb _ _ (far_own right), ne_eqb _ _ (near_not_own right)) refl)
       (λ j low high. rw (ne_eqb _ _ (before_not_own right j high)) refl)
-      ∙ ap Place (far_place right)
+      ∙ ap Ok (far_place right)
 
-  pub find_right_on_a_shape : find_of 0 strip ≡ Place hi
+  pub find_right_on_a_shape : find_of 0 strip ≡ Ok hi
   find_right_on_a_shape = find_on_a_shape 0
 
-  pub find_left_on_a_shape : find_of 2 strip ≡ Place (lo - 1)
+  pub find_left_on_a_shape : find_of 2 strip ≡ Ok (lo - 1)
   find_left_on_a_shape = find_on_a_shape 2
 
   -- No other place in range holds own null beside a neighbour that does not.
@@ -114,8 +114,8 @@ module _ (strip : List ℕ) (lo hi : ℕ) (b : Bounds strip lo hi) (fits : strip
 
 -- The same by the plain strip that the words stand for: find right gives the place after the orders, find left the place before.
 pub find_by_the_plain_strip : (strip : List ℕ) (p : Plain) → strip_fits (length strip) ≡ true → StandsFor strip p
-    → (find_of 0 strip ≡ Place (p.left + 1 + length p.orders)) × (find_of 2 strip ≡ Place p.left)
+    → (find_of 0 strip ≡ Ok (p.left + 1 + length p.orders)) × (find_of 2 strip ≡ Ok p.left)
 find_by_the_plain_strip strip p fits stands =
     let b = stands_for_bounds strip p stands in
     let left : p.left + 1 - 1 ≡ p.left = omega arith in
-    (find_right_on_a_shape strip _ _ b fits, find_left_on_a_shape strip _ _ b fits ∙ ap Place left)
+    (find_right_on_a_shape strip _ _ b fits, find_left_on_a_shape strip _ _ b fits ∙ ap Ok left)

@@ -1,6 +1,4 @@
-pub mod Lists
 pub mod Laying
-pub mod Running
 pub mod Measuring
 pub mod Values
 pub mod Shapes

@@ -3,11 +3,13 @@ use Prim.Native.Nat.{ℕ, ◌+◌, ◌-◌, ◌≤◌, ◌<◌}
 use mathlib.Core.Path.{◌≡◌, refl, sym, ap, subst, ◌∙◌}
 use mathlib.Core.Bool.{Bool, true, false, ◌&&◌}
 use mathlib.Core.List.{List}
-use lib.ListN.{length, get_or, drop}
+use lib.ListN.{length, get_or, drop, length-drop}
 use lib.Seq.{get_or-drop}
 use lib.Dec.{eqb, leb}
 use borrow.Author.Tests.{leb-true, le-leb, eqb-true, eq-eqb, ne_eqb, lt-leb}
 use native.Mathlib.Omega.{arith}
+use Rattle.std.proofs.lemmas.List.Sums.{prefix_len_is, prefix_len_passes}
+use Rattle.std.specs.declared.result.Result.TheVariants.{Ok}
 use Rattle.logic.proofs.Bools.{both}
 use Rattle.word.specs.Word.{RN, value_at}
 use Rattle.step.specs.Step.{strip_fits}
@@ -15,8 +17,6 @@ use Rattle.plain.specs.Plain.{Plain}
 use Rattle.strip.specs.Shape.{StandsFor, Shaped, Bounds, plain_between}
 use Rattle.strip.specs.Measure.{run_of, is_LN, is_order, is_RN, lefts, orders, rights, is_shaped, measure_of}
 use Rattle.strip.specs.Measure.{measured_number, measured_left, measured_orders, measured_right}
-use Rattle.strip.specs.declared.Measured.TheVariants.{Shape}
-use Rattle.strip.proofs.Running.{run_stops, run_ends, run_between, run_passes}
 use Rattle.strip.proofs.Measuring.{Counted, measure_refuses, measure_shaped, measure_unshaped}
 use Rattle.strip.proofs.Shapes.{strip_length, stands_for_bounds, bounds_stand_for, past_left}
 
@@ -24,19 +24,22 @@ use Rattle.strip.proofs.Shapes.{strip_length, stands_for_bounds, bounds_stand_fo
 module _ (strip : List ℕ) (lo hi : ℕ) (b : Bounds strip lo hi) where
   on_left : lefts strip ≡ lo
   on_left =
-      run_between is_LN strip lo 0 lo (omega arith) (omega arith) (λ i l h. eq-eqb _ _ (b.lefts i h))
-      (run_stops is_LN strip lo (omega arith) (ne_eqb _ _ (past_left strip lo hi b lo (omega arith) (omega arith))))
+      prefix_len_is is_LN strip lo 0 (omega arith) (λ i h. eq-eqb _ _ (b.lefts i h))
+      (λ h. ne_eqb _ _ (past_left strip lo hi b lo (omega arith) h))
 
   between : run_of is_order (drop lo strip) ≡ hi - lo
   between =
+      let back : lo + (hi - lo) ≡ hi = omega arith in
       let first : value_at strip hi ≡ RN = b.rights hi (omega arith) (omega arith) in
-      run_between is_order strip (hi - lo) lo hi (omega arith) (omega arith) (λ i l h. le-leb _ _ (b.orders i l h))
-      (run_stops is_order strip hi (omega arith) (lt-leb 3 (value_at strip hi) (omega arith)))
+      prefix_len_is is_order (drop lo strip) (hi - lo) 0 (simp length-drop (omega arith))
+      (λ i h. rw get_or-drop (le-leb _ _ (b.orders (lo + i) (omega arith) (omega arith))))
+      (λ h. rw (get_or-drop, back) (lt-leb 3 (value_at strip hi) (omega arith)))
 
   on_right : run_of is_RN (drop hi strip) ≡ length strip - hi
   on_right =
-      run_between is_RN strip (length strip - hi) hi (length strip) (omega arith) (omega arith)
-      (λ i l h. eq-eqb _ _ (b.rights i l h)) (run_ends is_RN strip (length strip) (omega arith))
+      prefix_len_is is_RN (drop hi strip) (length strip - hi) 0 (simp length-drop (omega arith))
+      (λ i h. rw get_or-drop (eq-eqb _ _ (b.rights (hi + i) (omega arith) (omega arith))))
+      (λ h. absurd (omega (arith, simp length-drop at h)))
 
   counts : Counted strip lo (hi - lo) (length strip - hi)
   counts =
@@ -48,7 +51,7 @@ module _ (strip : List ℕ) (lo hi : ℕ) (b : Bounds strip lo hi) where
       let all : lo + (hi - lo) + (length strip - hi) ≡ length strip = omega arith in
       rw (counts.of_right, counts.of_orders, counts.of_left, le-leb 1 lo b.some_left, le-leb 1 (length strip - hi) (omega arith), eq-eqb _ _ all)
 
-  pub bounds_measure : strip_fits (length strip) ≡ true → measure_of strip ≡ Shape (lo - 1) (hi - lo) (length strip - hi - 1)
+  pub bounds_measure : strip_fits (length strip) ≡ true → measure_of strip ≡ Ok (record { left = lo - 1; orders = hi - lo; right = length strip - hi - 1 })
   bounds_measure fits =
       measure_shaped strip fits bounds_shape ∙ rw (counts.of_right, counts.of_orders, counts.of_left)
 
@@ -74,7 +77,7 @@ module _ (strip : List ℕ) (shaped : is_shaped strip ≡ true) where
   passed_at test from i low high =
       let back : from + (i - from) ≡ i = omega arith in
       subst (λ (word : ℕ). test word ≡ true) (get_or-drop from strip (i - from) 0 ∙ ap (λ (j : ℕ). get_or strip j 0) back)
-      (run_passes test (drop from strip) (i - from) (omega arith))
+      (prefix_len_passes test (drop from strip) (i - from) 0 (omega arith))
 
   pub counted_bounds : Bounds strip l (l + n)
   counted_bounds =
@@ -89,7 +92,7 @@ module _ (strip : List ℕ) (shaped : is_shaped strip ≡ true) where
 
 -- Measure's three numbers are those of the plain strip that the words stand for.
 pub measure_gives_the_plain_strip : (strip : List ℕ) (p : Plain) → strip_fits (length strip) ≡ true → StandsFor strip p
-    → measure_of strip ≡ Shape p.left (length p.orders) p.right
+    → measure_of strip ≡ Ok (record { left = p.left; orders = length p.orders; right = p.right })
 measure_gives_the_plain_strip strip p fits stands =
     let b = stands_for_bounds strip p stands in
     let left : p.left + 1 - 1 ≡ p.left = omega arith in
@@ -97,7 +100,7 @@ measure_gives_the_plain_strip strip p fits stands =
     let right : length strip - (p.left + 1 + length p.orders) - 1 ≡ p.right = omega (arith, strip_length strip p stands) in
     bounds_measure strip _ _ b fits ∙ simp (left, held, right)
 
-pub measured_is_shaped : (strip : List ℕ) (l n r : ℕ) → measure_of strip ≡ Shape l n r
+pub measured_is_shaped : (strip : List ℕ) (l n r : ℕ) → measure_of strip ≡ Ok (record { left = l; orders = n; right = r })
     → (p : Plain) × StandsFor strip p × (p.left ≡ l) × (length p.orders ≡ n) × (p.right ≡ r)
 measured_is_shaped strip l n r e = go (strip_fits (length strip)) (is_shaped strip) refl refl
   where

@@ -8,12 +8,12 @@ use lib.Seq.{get_or-take, get_or-drop, take_at, drop_at, ext_get_or}
 use lib.Dec.{ltb}
 use borrow.Author.Tests.{ltb-true, ltb-false}
 use native.Mathlib.Omega.{arith}
+use Rattle.std.proofs.lemmas.List.{get_or_default}
 use Rattle.logic.specs.Every.{Every}
 use Rattle.word.specs.Word.{value_of, LN, RN, value_at}
 use Rattle.step.specs.Step.{max_of}
 use Rattle.plain.specs.Plain.{Plain, places_of}
 use Rattle.strip.specs.Shape.{values_of, IsOrder, StandsFor, Bounds, plain_between}
-use Rattle.strip.proofs.Lists.{get_d_any}
 use Rattle.strip.proofs.Values.{values_length, values_left, values_between, values_right}
 
 value_is : (strip : List ℕ) (i : ℕ) → get_or (map value_of strip) i 0 ≡ value_at strip i
@@ -30,7 +30,7 @@ module _ (strip : List ℕ) (p : Plain) (stands : StandsFor strip p) where
   order_at : (i : ℕ) → p.left + 1 ≤ i → i < p.left + 1 + length p.orders → IsOrder (value_at strip i)
   order_at i l h =
       let within : i - (p.left + 1) < length p.orders = omega arith in
-      rw (at i, values_between p i l h, get_d_any p.orders (i - (p.left + 1)) 0 3 within) (stands.orders _ within)
+      rw (at i, values_between p i l h, get_or_default p.orders (i - (p.left + 1)) 0 3 within) (stands.orders _ within)
 
   pub stands_for_bounds : Bounds strip (p.left + 1) (p.left + 1 + length p.orders)
   stands_for_bounds =
@@ -81,7 +81,7 @@ module _ (strip : List ℕ) (lo hi : ℕ) (b : Bounds strip lo hi) where
   order_above : Every IsOrder 3 p.orders
   order_above i within =
       let inside : i < hi - lo = omega (arith, held) in
-      rw (get_d_any p.orders i 3 0 within, order_in i inside) (b.orders (lo + i) (omega arith) (omega arith))
+      rw (get_or_default p.orders i 3 0 within, order_in i inside) (b.orders (lo + i) (omega arith) (omega arith))
 
   same_length : length values ≡ length (values_of p)
   same_length = omega (arith, length-map strip value_of, values_length p, held)

@@ -1,14 +1,15 @@
 -- The values of a plain strip, place by place.
-use Prim.Native.Nat.{ℕ, ◌+◌, ◌-◌, ◌≤◌, ◌<◌}
-use mathlib.Core.Path.{◌≡◌, ap, ◌∙◌}
-use mathlib.Core.List.{List, ◌++◌, append-nil}
+use Prim.Native.Nat.{ℕ, zero, suc, ◌+◌, ◌-◌, ◌≤◌, ◌<◌}
+use mathlib.Core.Path.{◌≡◌, refl, ap, ◌∙◌}
+use mathlib.Core.List.{List, ◌∷◌, ◌++◌, append-nil, map}
 use lib.ListN.{length, get_or, replicate, length-append, length-replicate, get_or-replicate, get_or-append}
+use lib.Seq.{get_or-append_right}
 use native.Mathlib.Omega.{arith}
+use Rattle.std.proofs.lemmas.List.{map-append}
 use Rattle.word.specs.Word.{LN, RN}
 use Rattle.plain.specs.Plain.{Plain, places_of, fresh_plain}
 use Rattle.strip.specs.Shape.{values_of, StandsFor}
 use Rattle.strip.specs.Lay.{fresh_strip}
-use Rattle.strip.proofs.Lists.{get_d_past, map_append, map_replicate}
 
 module _ (p : Plain) where
   abbrev lo : ℕ
@@ -35,15 +36,19 @@ module _ (p : Plain) where
   pub values_between : (i : ℕ) → lo ≤ i → i < hi → get_or (values_of p) i 0 ≡ get_or p.orders (i - lo) 0
   values_between i l h =
       get_or-append front (replicate (p.right + 1) RN) 0 i (omega (arith, front_length))
-      ∙ get_d_past (replicate lo LN) p.orders i 0 (omega (arith, length-replicate {A = ℕ} lo LN))
+      ∙ get_or-append_right (replicate lo LN) p.orders i 0 (omega (arith, length-replicate {A = ℕ} lo LN))
       ∙ ap (λ (n : ℕ). get_or p.orders (i - n) 0) (length-replicate lo LN)
 
   pub values_right : (i : ℕ) → hi ≤ i → i < places_of p + 2 → get_or (values_of p) i 0 ≡ RN
   values_right i l h =
-      get_d_past front (replicate (p.right + 1) RN) i 0 (omega (arith, front_length))
+      get_or-append_right front (replicate (p.right + 1) RN) i 0 (omega (arith, front_length))
       ∙ get_or-replicate (p.right + 1) (i - length front) RN 0 (omega (arith, front_length))
+
+map_replicate : (f : ℕ → ℕ) (n a : ℕ) → map f (replicate n a) ≡ replicate n (f a)
+map_replicate f zero a = refl
+map_replicate f (suc n) a = ap (λ (rest : List ℕ). f a ∷ rest) (map_replicate f n a)
 
 -- A fresh strip with divide d stands for L = d, no orders, R = MAX − d.
 pub fresh_stands_for : (max divide : ℕ) → StandsFor (fresh_strip max divide) (fresh_plain max divide)
 fresh_stands_for max divide =
-    record { values = simp (map_append, map_replicate, append-nil); orders = λ i h. absurd (omega arith) }
+    record { values = simp (map-append, map_replicate, append-nil); orders = λ i h. absurd (omega arith) }

@@ -1,4 +1,3 @@
 pub mod Shape
 pub mod Lay
 pub mod Measure
-pub mod Inside

@@ -1,15 +1,19 @@
 -- Measure: L, the number of orders, and R of a shaped strip.
-use Rattle.std.specs.Prelude.{ℕ, suc, ◌+◌, ◌-◌, Bool, not, ◌&&◌, List, [], ◌∷◌, length, drop, eqb, leb}
+use Rattle.std.specs.Prelude.{ℕ, ◌+◌, ◌-◌, Bool, not, ◌&&◌, List, length, drop, eqb, leb}
+use Rattle.std.specs.List.{prefix_len}
+use Rattle.std.specs.declared.result.Result.{Result}
+use Rattle.std.specs.declared.result.Result.TheVariants.{Ok, Err}
 use Rattle.logic.specs.Pick.{pick}
+use Rattle.refusal.specs.declared.Refusal.{Refusal}
+use Rattle.refusal.specs.declared.Refusal.TheVariants.{WrongSize, NotShaped}
+use Rattle.refusal.specs.Refusal.{refusal_number}
 use Rattle.word.specs.Word.{value_of, LN, RN}
 use Rattle.step.specs.Step.{strip_fits}
-use Rattle.strip.specs.declared.Measured.{Measured}
-use Rattle.strip.specs.declared.Measured.TheVariants.{Shape, NotMeasured}
+use Rattle.strip.specs.declared.Shape.{Shape}
 
 -- how many words from the front on pass the test
-unfoldable pub run_of : (test : ℕ → Bool) → List ℕ → ℕ
-run_of test [] = 0
-run_of test (word ∷ words) = pick (test word) (suc (run_of test words)) 0
+abbrev pub run_of : (test : ℕ → Bool) → List ℕ → ℕ
+run_of test words = prefix_len test words
 
 abbrev pub is_LN : ℕ → Bool
 is_LN word = eqb (value_of word) LN
@@ -35,25 +39,25 @@ abbrev pub is_shaped : List ℕ → Bool
 is_shaped strip = leb 1 (lefts strip) && leb 1 (rights strip) && eqb (lefts strip + orders strip + rights strip) (length strip)
 
 -- L is the number of LN less one, R that of RN less one
-unfoldable pub measure_of : List ℕ → Measured
+unfoldable pub measure_of : List ℕ → Result Shape Refusal
 measure_of strip =
-    pick (not (strip_fits (length strip))) (NotMeasured 1)
-    (pick (not (is_shaped strip)) (NotMeasured 12)
-    (Shape (lefts strip - 1) (orders strip) (rights strip - 1)))
+    pick (not (strip_fits (length strip))) (Err WrongSize)
+    (pick (not (is_shaped strip)) (Err NotShaped)
+    (Ok (record { left = lefts strip - 1; orders = orders strip; right = rights strip - 1 })))
 
-abbrev pub measured_number : Measured → ℕ
-measured_number (Shape left held right) = 0
-measured_number (NotMeasured number) = number
+abbrev pub measured_number : Result Shape Refusal → ℕ
+measured_number (Ok shape) = 0
+measured_number (Err refusal) = refusal_number refusal
 
 -- a refusal gives 0 for the measured numbers
-abbrev pub measured_left : Measured → ℕ
-measured_left (Shape left held right) = left
-measured_left (NotMeasured number) = 0
+abbrev pub measured_left : Result Shape Refusal → ℕ
+measured_left (Ok shape) = shape.left
+measured_left (Err refusal) = 0
 
-abbrev pub measured_orders : Measured → ℕ
-measured_orders (Shape left held right) = held
-measured_orders (NotMeasured number) = 0
+abbrev pub measured_orders : Result Shape Refusal → ℕ
+measured_orders (Ok shape) = shape.orders
+measured_orders (Err refusal) = 0
 
-abbrev pub measured_right : Measured → ℕ
-measured_right (Shape left held right) = right
-measured_right (NotMeasured number) = 0
+abbrev pub measured_right : Result Shape Refusal → ℕ
+measured_right (Ok shape) = shape.right
+measured_right (Err refusal) = 0

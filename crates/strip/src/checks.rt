@@ -2,17 +2,18 @@
 ghost use Rattle.std.specs.Prelude.{◌≡◌};
 ghost use Rattle.strip.specs.Lay.{lay_refusal};
 
+use refusal::Refusal;
 use step::strip_fits;
 
 #[tactic(auto, unfolding(crate::specs::Lay::lay_refusal))]
-pub fn lay_refusal(words: usize, divide: u32) -> u32
+pub fn lay_refusal(words: usize, divide: u32) -> Result<(), Refusal>
     ensures { result ≡ lay_refusal words divide }
 {
-    if strip_fits(words) {
-        if divide as usize <= words - 2 {
-            return 0;
-        }
-        return 8;
+    if !strip_fits(words) {
+        return Err(Refusal::WrongSize);
     }
-    1
+    if words - 2 < divide as usize {
+        return Err(Refusal::Outside);
+    }
+    Ok(())
 }

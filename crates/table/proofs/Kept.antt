@@ -1,47 +1,46 @@
 -- What the promise of a call on lent records settles: everything; and what such a call leaves as it was.
 use Prim.Native.Nat.{ℕ, ◌+◌}
 use mathlib.Core.Path.{◌≡◌, refl, sym, ◌∙◌, ap, subst}
-use mathlib.Core.Bool.{Bool, true, false}
+use mathlib.Core.Bool.{true}
 use mathlib.Core.List.{List}
 use lib.ListN.{length, get_or, length-replicate}
 use lib.Seq.{get_or-set_other}
-use lib.Dec.{eqb}
 use Rattle.record.specs.Record.{idle}
-use Rattle.party.specs.Answer.{is_refusal}
+use Rattle.party.specs.Answer.{is_refusal, number_of, carried_of}
 use Rattle.party.specs.Calls.{start_of, withdraw_of}
 use Rattle.record.specs.declared.Record.{Record}
+use Rattle.std.specs.declared.result.Result.{Result}
+use Rattle.refusal.specs.declared.Refusal.{Refusal}
+use Rattle.party.specs.declared.Answer.{Answer}
 use Rattle.party.specs.declared.Answered.{Answered}
 use Rattle.stages.specs.Stages.{near}
 use Rattle.step.specs.Step.{max_of, step_leaves}
-use Rattle.call.specs.Call.{Call, party_of, gate, own_of, own_leaves, record_of, call_of}
+use Rattle.call.specs.Call.{Call, party_of, gate, own_of, own_leaves, record_of}
+use Rattle.refusal.proofs.Checks.{Decided, decided}
+use Rattle.call.proofs.Called.{call_through, call_away}
 use Rattle.call.proofs.Calls.{refused_call_changes_nothing, other_records_stand}
 use Rattle.step.proofs.Accesses.{Gone}
 use Rattle.step.proofs.Went.{GoneOn, Went, went}
 use Rattle.table.specs.Lent.{Does, DoesAtMax, alone, blank}
-use Rattle.table.specs.declared.Said.{Said}
-
--- What is said is its number and its carried order.
-said_is : {one two : Said} → one.number ≡ two.number → one.carried ≡ two.carried → one ≡ two
-said_is number carried = λ i. record { number = number i; carried = carried i }
 
 module _ {strip : List ℕ} {table : List Record} {call : Call} where
-  -- Two results that keep one promise say the same and leave the same words and records.
-  pub two_that_keep_it_are_equal : {one two : Said} {words words' : List ℕ} {left left' : List Record}
+  -- Two results that keep one promise are the same and leave the same words and records.
+  pub two_that_keep_it_are_equal : {one two : Result Answer Refusal} {words words' : List ℕ} {left left' : List Record}
       → Does strip table call one words left → Does strip table call two words' left' → (one ≡ two) × ((words ≡ words') × (left ≡ left'))
   two_that_keep_it_are_equal p q = (
-    said_is (p.number_is ∙ sym q.number_is) (p.carried_is ∙ sym q.carried_is),
+    p.answer_is ∙ sym q.answer_is,
     (p.words_left ∙ sym q.words_left, p.records_left ∙ sym q.records_left),
   )
 
   -- A refused call carries no order and leaves every word and every record.
-  pub refused_changes_nothing : {said : Said} {words : List ℕ} {left : List Record} → Does strip table call said words left
-      → is_refusal said.number ≡ true → (said.carried ≡ 0) × ((words ≡ strip) × (left ≡ table))
+  pub refused_changes_nothing : {answer : Result Answer Refusal} {words : List ℕ} {left : List Record} → Does strip table call answer words left
+      → is_refusal (number_of answer) ≡ true → (carried_of answer ≡ 0) × ((words ≡ strip) × (left ≡ table))
   refused_changes_nothing p refused =
-      let kept = refused_call_changes_nothing strip table call (ap is_refusal (sym p.number_is) ∙ refused) in
-      (p.carried_is ∙ kept.carried, (p.words_left ∙ kept.strip_kept, p.records_left ∙ kept.table_kept))
+      let kept = refused_call_changes_nothing strip table call (rw p.answer_is at refused) in
+      (ap carried_of p.answer_is ∙ kept.carried, (p.words_left ∙ kept.strip_kept, p.records_left ∙ kept.table_kept))
 
   -- Every record but the numbered party's is as it was.
-  pub others_stand : {said : Said} {words : List ℕ} {left : List Record} → Does strip table call said words left
+  pub others_stand : {answer : Result Answer Refusal} {words : List ℕ} {left : List Record} → Does strip table call answer words left
       → (i : ℕ) → (i ≡ party_of call → ⊥) → get_or left i idle ≡ get_or table i idle
   others_stand p i other = ap (λ (l : List Record). get_or l i idle) p.records_left ∙ other_records_stand strip table call i other
 
@@ -75,34 +74,35 @@ module _ (strip : List ℕ) (r : Record) (hint i : ℕ) (away : i ≡ r.k → �
   other_words_stand = go (went strip r hint)
     where
       go : Went strip r hint → Stands (step_leaves strip r hint)
-      go (Went.stays number refusal gone) = stands_where gone refl
+      go (Went.stays refusal gone) = stands_where gone refl
       go (Went.goes clear on) = stands_after on
 
 -- What start and withdraw promise at MAX they promise of any strip of MAX+2 words.
 module _ (strip strip' : List ℕ) (table : List Record) (call : Call) (len : length strip ≡ length strip')
     (own : own_of strip (record_of table call) call ≡ own_of strip' (record_of table call) call)
     (kept : own_leaves strip' (record_of table call) call ≡ strip') where
-  carries_over : {said : Said} {left : List Record} → Does strip table call said strip left → Does strip' table call said strip' left
-  unfolding call_of
-  carries_over {said} {left} p = go (eqb (gate (length strip) (length table) call) 0) refl (ap (λ (n : ℕ). eqb (gate n (length table) call) 0) (sym len))
+  carries_over : {answer : Result Answer Refusal} {left : List Record} → Does strip table call answer strip left → Does strip' table call answer strip' left
+  carries_over {answer} {left} p = go (decided (gate (length strip) (length table) call))
     where
-      go : (clear : Bool) → eqb (gate (length strip) (length table) call) 0 ≡ clear
-          → eqb (gate (length strip') (length table) call) 0 ≡ eqb (gate (length strip) (length table) call) 0 → Does strip' table call said strip' left
-      go true e same =
-          let e' = same ∙ e in
+      same : gate (length strip') (length table) call ≡ gate (length strip) (length table) call
+      same = ap (λ (n : ℕ). gate n (length table) call) (sym len)
+
+      go : Decided (gate (length strip) (length table) call) → Does strip' table call answer strip' left
+      go (Decided.none clear) =
+          let here = call_through strip table call clear in
+          let there = call_through strip' table call (same ∙ clear) in
           record {
-            number_is = p.number_is ∙ simp (e, e', own);
-            carried_is = p.carried_is ∙ simp (e, e', own);
-            words_left = simp (e', kept);
-            records_left = p.records_left ∙ simp (e, e', own);
+            answer_is = p.answer_is ∙ simp (here, there, own);
+            words_left = simp (there, kept);
+            records_left = p.records_left ∙ simp (here, there, own);
           }
-      go false e same =
-          let e' = same ∙ e in
+      go (Decided.some refusal barred) =
+          let here = call_away strip table call refusal barred in
+          let there = call_away strip' table call refusal (same ∙ barred) in
           record {
-            number_is = p.number_is ∙ simp (e', len);
-            carried_is = p.carried_is ∙ simp (e, e');
-            words_left = simp e';
-            records_left = p.records_left ∙ simp (e, e');
+            answer_is = p.answer_is ∙ simp (here, there);
+            words_left = simp there;
+            records_left = p.records_left ∙ simp (here, there);
           }
 
 pub blank_words : (max : ℕ) → length (blank max) ≡ max + 2
@@ -112,13 +112,13 @@ module _ (max : ℕ) (strip : List ℕ) (words : length strip ≡ max + 2) (tabl
   same_length : length (blank max) ≡ length strip
   same_length = blank_words max ∙ sym words
 
-  pub any_strip_starts : (party operation order : ℕ) {said : Said} {left : List Record}
-      → DoesAtMax max table (Call.start party operation order) said left → Does strip table (Call.start party operation order) said strip left
+  pub any_strip_starts : (party operation order : ℕ) {answer : Result Answer Refusal} {left : List Record}
+      → DoesAtMax max table (Call.start party operation order) answer left → Does strip table (Call.start party operation order) answer strip left
   any_strip_starts party operation order =
       carries_over (blank max) strip table (Call.start party operation order) same_length
       (ap (λ (n : ℕ). start_of (max_of n) (get_or table party idle) operation order) same_length) refl
 
-  pub any_strip_withdraws : (party : ℕ) {said : Said} {left : List Record}
-      → DoesAtMax max table (Call.withdraw party) said left → Does strip table (Call.withdraw party) said strip left
+  pub any_strip_withdraws : (party : ℕ) {answer : Result Answer Refusal} {left : List Record}
+      → DoesAtMax max table (Call.withdraw party) answer left → Does strip table (Call.withdraw party) answer strip left
   any_strip_withdraws party =
       carries_over (blank max) strip table (Call.withdraw party) same_length (ap (λ (n : ℕ). withdraw_of (max_of n) (get_or table party idle)) same_length) refl

@@ -1,4 +1,4 @@
--- What is promised of the lent records: the call by value tells it of a record that is lent alone, and what is done to a party's
+-- What is promised of the lent records: the call by value does it to a record that is lent alone, and what is done to a party's
 -- record alone is done to it in the table.
 use Prim.Native.Nat.{ℕ, ◌+◌, ◌<◌}
 use mathlib.Core.Path.{◌≡◌, refl, sym, ◌∙◌, ap, subst}
@@ -8,15 +8,18 @@ use lib.ListN.{length, set}
 use lib.Dec.{leb, ltb}
 use borrow.Author.Tests.{leb-true, leb-false, le-leb, lt-leb}
 use native.Mathlib.Omega.{arith}
+use Rattle.std.specs.declared.result.Result.{Result}
+use Rattle.std.specs.declared.result.Result.TheVariants.{Err}
+use Rattle.refusal.specs.declared.Refusal.{Refusal}
+use Rattle.refusal.specs.Refusal.{Check, passes}
 use Rattle.record.specs.declared.Record.{Record}
+use Rattle.party.specs.declared.Answer.{Answer}
+use Rattle.party.specs.declared.Answered.{Answered}
 use Rattle.party.specs.Calls.{max_fits, start_of, start_refusal, withdraw_of, withdraw_refusal}
 use Rattle.step.specs.Step.{strip_fits, max_of, step_of, step_leaves, step_refusal}
-use Rattle.call.specs.Call.{Call, party_of, gate, own_of, own_leaves, Left, record_of, call_of}
+use Rattle.call.specs.Call.{Call, party_of, gate_of, gate, own_of, own_leaves, Left, record_of, call_of}
 use Rattle.call.proofs.Called.{past_gate, call_through, call_away}
 use Rattle.table.specs.Lent.{Does, DoesAtMax, alone, blank}
-use Rattle.table.specs.Inside.{told_of}
-use Rattle.table.specs.declared.Said.{Said}
-use Rattle.table.specs.declared.Told.{Told}
 use Rattle.table.proofs.Kept.{alone_one, blank_words}
 
 -- A strip fits where its MAX does.
@@ -59,64 +62,65 @@ module _ (strip : List ℕ) (r : Record) where
       go (Call.withdraw party) true e m = simp (m, e)
       go (Call.withdraw party) false e m = simp (m, e)
 
-  pub told_alone : (call : Call) (t : Told) (words : List ℕ) → t ≡ told_of (own_of strip r call) → words ≡ own_leaves strip r call
-      → Does strip (alone r) (of_first call) t.said words (alone t.rec)
-  told_alone call t words told left =
+  does_alone : (call : Call) (given : Answered) (words : List ℕ) → given ≡ own_of strip r call → words ≡ own_leaves strip r call
+      → Does strip (alone r) (of_first call) given.answer words (alone given.rec)
+  does_alone call given words gives left =
       let by_value = own_alone call in
-      record {
-        number_is = simp (told, by_value);
-        carried_is = simp (told, by_value);
-        words_left = simp (left, by_value);
-        records_left = simp (told, by_value);
-      }
+      record { answer_is = simp (gives, by_value); words_left = simp (left, by_value); records_left = simp (gives, by_value) }
 
--- ---- the numbered party's record in the table: the checks, by their number g
-module _ (strip : List ℕ) (table : List Record) (call : Call) (g : ℕ) (checked : g ≡ gate (length strip) (length table) call) where
-  pub within : g ≡ 0 → party_of call < length table
-  within none = (past_gate (length strip) (length table) call (sym checked ∙ none)).party_known
+-- ---- the numbered party's record in the table: the checks, by what they decide
+module _ (strip : List ℕ) (table : List Record) (call : Call) (gated : Check) (gates : gated ≡ gate (length strip) (length table) call) where
+  pub within : gated ≡ passes → party_of call < length table
+  within clear = (past_gate (length strip) (length table) call (sym gates ∙ clear)).party_known
 
-  -- they refuse: their number, and nothing is written
-  pub turned_away_lem : (g ≡ 0 → ⊥) → Does strip table call (record { number = g; carried = 0 }) strip table
-  turned_away_lem some =
-      let away = call_away strip table call (λ none. some (checked ∙ none)) in
-      record { number_is = simp (checked, away); carried_is = simp away; words_left = simp away; records_left = simp away }
+  -- they refuse, and nothing is written
+  pub turned_away_lem : (refusal : Refusal) → gated ≡ Err refusal → Does strip table call (Err refusal) strip table
+  turned_away_lem refusal barred =
+      let away = call_away strip table call refusal (sym gates ∙ barred) in
+      record { answer_is = simp away; words_left = simp away; records_left = simp away }
 
   -- they pass: what is promised of the record alone
-  pub in_place : g ≡ 0 → (said : Said) (words : List ℕ) (r : Record) → Does strip (alone (record_of table call)) (of_first call) said words (alone r)
-      → Does strip table call said words (set table (party_of call) r)
-  in_place none said words r p =
+  pub in_place : gated ≡ passes → (answer : Result Answer Refusal) (words : List ℕ) (r : Record)
+      → Does strip (alone (record_of table call)) (of_first call) answer words (alone r) → Does strip table call answer words (set table (party_of call) r)
+  in_place clear answer words r p =
       let by_value = own_alone strip (record_of table call) call in
-      let through = call_through strip table call (sym checked ∙ none) in
+      let through = call_through strip table call (sym gates ∙ clear) in
       let stored = alone_one (p.records_left ∙ ap (λ (l : Left). l.table) by_value) in
       record {
-        number_is = p.number_is ∙ simp (by_value, through);
-        carried_is = p.carried_is ∙ simp (by_value, through);
+        answer_is = p.answer_is ∙ simp (by_value, through);
         words_left = p.words_left ∙ simp (by_value, through);
         records_left = simp (stored, through);
       }
 
--- ---- start and withdraw are handed MAX, and no gate is handed all that its call has
+-- ---- each call of a record that is lent alone; start and withdraw are handed MAX
+pub step_alone : (strip : List ℕ) (r : Record) (hint : ℕ) (given : Answered) (words : List ℕ) → given ≡ step_of strip r hint
+    → words ≡ step_leaves strip r hint → Does strip (alone r) (Call.step 0 hint) given.answer words (alone given.rec)
+step_alone strip r hint = does_alone strip r (Call.step 0 hint)
+
 blank_max : (max : ℕ) → max ≡ max_of (length (blank max))
 blank_max max = rw blank_words (omega arith)
 
-pub start_alone : (max : ℕ) (r : Record) (operation order : ℕ) (t : Told) → t ≡ told_of (start_of max r operation order)
-    → DoesAtMax max (alone r) (Call.start 0 operation order) t.said (alone t.rec)
-start_alone max r operation order t told =
-    told_alone (blank max) r (Call.start 0 operation order) t (blank max) (subst (λ (m : ℕ). t ≡ told_of (start_of m r operation order)) (blank_max max) told) refl
+pub start_alone : (max : ℕ) (r : Record) (operation order : ℕ) (given : Answered) → given ≡ start_of max r operation order
+    → DoesAtMax max (alone r) (Call.start 0 operation order) given.answer (alone given.rec)
+start_alone max r operation order given gives =
+    does_alone (blank max) r (Call.start 0 operation order) given (blank max) (subst (λ (m : ℕ). given ≡ start_of m r operation order) (blank_max max) gives) refl
 
-pub withdraw_alone : (max : ℕ) (r : Record) (t : Told) → t ≡ told_of (withdraw_of max r)
-    → DoesAtMax max (alone r) (Call.withdraw 0) t.said (alone t.rec)
-withdraw_alone max r t told =
-    told_alone (blank max) r (Call.withdraw 0) t (blank max) (subst (λ (m : ℕ). t ≡ told_of (withdraw_of m r)) (blank_max max) told) refl
+pub withdraw_alone : (max : ℕ) (r : Record) (given : Answered) → given ≡ withdraw_of max r
+    → DoesAtMax max (alone r) (Call.withdraw 0) given.answer (alone given.rec)
+withdraw_alone max r given gives =
+    does_alone (blank max) r (Call.withdraw 0) given (blank max) (subst (λ (m : ℕ). given ≡ withdraw_of m r) (blank_max max) gives) refl
 
-module _ {g : ℕ} (parties party : ℕ) where
-  pub step_checked : (words hint : ℕ) → g ≡ gate words parties (Call.step party 0) → g ≡ gate words parties (Call.step party hint)
+-- the gate is the call's, on a strip and at MAX
+module _ {gated : Check} (parties party : ℕ) where
+  pub step_gates : (words hint : ℕ) → gated ≡ gate_of words parties false party → gated ≡ gate words parties (Call.step party hint)
   unfolding gate
-  step_checked words hint checked = checked
+  step_gates words hint gates = gates
 
-  pub start_checked : (max operation order : ℕ) → g ≡ gate (max + 2) parties (Call.start party operation 0) → g ≡ gate (length (blank max)) parties (Call.start party operation order)
+  pub start_gates : (max operation order : ℕ) → gated ≡ gate_of (max + 2) parties (ltb 3 operation) party
+      → gated ≡ gate (length (blank max)) parties (Call.start party operation order)
   unfolding gate
-  start_checked max operation order checked = rw blank_words checked
+  start_gates max operation order gates = rw blank_words gates
 
-  pub withdraw_checked : (max : ℕ) → g ≡ gate (max + 2) parties (Call.withdraw party) → g ≡ gate (length (blank max)) parties (Call.withdraw party)
-  withdraw_checked max checked = rw blank_words checked
+  pub withdraw_gates : (max : ℕ) → gated ≡ gate_of (max + 2) parties false party → gated ≡ gate (length (blank max)) parties (Call.withdraw party)
+  unfolding gate
+  withdraw_gates max gates = rw blank_words gates

@@ -1,14 +1,14 @@
 -- What the calls on lent records promise: the one definition of a call on a strip and a table, and nothing beside it.
 use Rattle.std.specs.Prelude.{ℕ, ◌+◌, ◌≡◌, List, [], ◌∷◌, replicate}
+use Rattle.std.specs.declared.result.Result.{Result}
+use Rattle.refusal.specs.declared.Refusal.{Refusal}
 use Rattle.record.specs.declared.Record.{Record}
-use Rattle.party.specs.Answer.{number_of, carried_of}
+use Rattle.party.specs.declared.Answer.{Answer}
 use Rattle.call.specs.Call.{Call, call_of}
-use Rattle.table.specs.declared.Said.{Said}
 
--- the number and the carried order, every word of the strip and every record of the table
-pub record Does (strip : List ℕ) (table : List Record) (call : Call) (said : Said) (words : List ℕ) (left : List Record) : Type 0 where
-  pub number_is : said.number ≡ number_of (call_of strip table call).answer
-  pub carried_is : said.carried ≡ carried_of (call_of strip table call).answer
+-- the answer, every word of the strip and every record of the table
+pub record Does (strip : List ℕ) (table : List Record) (call : Call) (answer : Result Answer Refusal) (words : List ℕ) (left : List Record) : Type 0 where
+  pub answer_is : answer ≡ (call_of strip table call).answer
   pub words_left : words ≡ (call_of strip table call).strip
   pub records_left : left ≡ (call_of strip table call).table
 
@@ -21,5 +21,5 @@ alone r = r ∷ []
 abbrev pub blank : (max : ℕ) → List ℕ
 blank max = replicate (max + 2) 0
 
-abbrev pub DoesAtMax : (max : ℕ) (table : List Record) (call : Call) (said : Said) (left : List Record) → Type 0
-DoesAtMax max table call said left = Does (blank max) table call said (blank max) left
+abbrev pub DoesAtMax : (max : ℕ) (table : List Record) (call : Call) (answer : Result Answer Refusal) (left : List Record) → Type 0
+DoesAtMax max table call answer left = Does (blank max) table call answer (blank max) left
