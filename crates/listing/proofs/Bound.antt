@@ -6,7 +6,8 @@ use native.Mathlib.Omega.{arith}
 use Rattle.logic.specs.Every.{Every}
 use Rattle.logic.proofs.Bools.{whichever}
 use Rattle.text.specs.Text.{decimal}
-use Rattle.text.proofs.Lengths.{digits_within, digits_most}
+use Rattle.text.proofs.Digits.{decimal_is_short}
+use Rattle.text.proofs.Lengths.{digits_most}
 use Rattle.word.specs.Word.{value_of, counter_of}
 use Rattle.call.specs.Call.{Call, party_of}
 use Rattle.strip.specs.Lay.{fresh_strip}
@@ -20,23 +21,23 @@ use Rattle.listing.proofs.Bounds.{Bounded, lines_are_bounded}
 effect_length : (line : Line) → line.effect < 2048 → length (effect_text line) ≤ 4
 effect_length line h =
     whichever (λ (l : List ℕ). length l ≤ 4) (is_result line.number) {a = decimal line.effect} {b = 45 ∷ []}
-    (digits_within 3 9 line.effect (omega arith)) (omega arith)
+    (decimal_is_short 4 line.effect (omega arith) (omega arith) (omega arith)) (omega arith)
 
 line_length : (entry : ℕ) (call : Call) (line : Line)
     → entry < 2048 → party_of call < 256 → Bounded line → length (line_text entry call line) ≤ 28
 line_length entry call line e p bounded =
-    let d1 = digits_within 3 9 entry (omega arith) in
-    let d2 = digits_within 2 9 (party_of call) (omega arith) in
-    let d3 = digits_within 1 9 line.number (omega (arith, bounded.number_is)) in
+    let d1 = decimal_is_short 4 entry (omega arith) (omega arith) (omega arith) in
+    let d2 = decimal_is_short 3 (party_of call) (omega arith) (omega arith) (omega arith) in
+    let d3 = decimal_is_short 2 line.number (omega arith) (omega (arith, bounded.number_is)) (omega (arith, bounded.number_is)) in
     let d4 = digits_most 9 line.carried in
     let d5 = effect_length line bounded.effect_is in
     simp length-append (omega arith)
 
 header_length : (max divide parties : ℕ) → max ≤ 4094 → divide ≤ 4094 → parties ≤ 16 → length (header_text max divide parties) ≤ 27
 header_length max divide parties m d p =
-    let d1 = digits_within 3 9 max (omega arith) in
-    let d2 = digits_within 3 9 divide (omega arith) in
-    let d3 = digits_within 1 9 parties (omega arith) in
+    let d1 = decimal_is_short 4 max (omega arith) (omega arith) (omega arith) in
+    let d2 = decimal_is_short 4 divide (omega arith) (omega arith) (omega arith) in
+    let d3 = decimal_is_short 2 parties (omega arith) (omega arith) (omega arith) in
     simp length-append (omega arith)
 
 words_length : (words : List ℕ) → length (words_text words) ≤ 22 * length words + 1

@@ -1,3 +1,4 @@
 pub mod Words
+pub mod Telling
 pub mod Bounds
 pub mod Bound

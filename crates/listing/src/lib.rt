@@ -1,97 +1,81 @@
-// The lines of a listing, each into lent bytes. Each answers the place behind what it wrote, and asks that there is room.
+// The lines of a listing, each behind the text that was put before it, and each asking that there is room.
 #![tactic(auto)]
 
 ghost use Rattle.std.specs.Prelude.{◌≡◌, ◌++◌, ◌∷◌, []};
 ghost use Rattle.text.specs.Writing.{Room, Puts};
 ghost use Rattle.entry.specs.Entry.{asked_of};
-ghost use Rattle.history.specs.Finished.{is_result};
-ghost use Rattle.run.specs.Turn.{line_in};
-ghost use Rattle.listing.specs.Listing.{effect_text, line_text, header_text, word_text, words_text, cells_text};
+ghost use Rattle.listing.specs.Told.{shown_effect, turn_text};
+ghost use Rattle.listing.specs.Listing.{header_text, word_text, words_text, cells_text};
 
 use entry::{Entry, party_of};
+use party::{carried, number};
 use run::Turn;
-use text::{put_byte, put_decimal, put_spaced, put_text};
+use text::Text;
 use word::{counter, value};
 
-fn is_result(number: u32) -> bool
-    ensures { result ≡ is_result number }
+// The entry where an operation took effect, or "-".
+fn put_effect(text: &mut Text, effect: Option<u32>)
+    requires { Room (shown_effect effect) text.old }
+    ensures { Puts (shown_effect effect) text.old text.new }
 {
-    (16 <= number) & (number <= 19)
-}
-
-fn put_effect(out: &mut [u8], at: usize, t: Turn) -> usize
-    requires { Room (effect_text (line_in t)) out.old at }
-    ensures { Puts (effect_text (line_in t)) out.old at result out.new }
-{
-    if is_result(t.number) {
-        return put_decimal(out, at, t.effect);
+    match effect {
+        Some(entry) => text.put_decimal(entry),
+        None => text.put_byte(b'-'),
     }
-    put_byte(out, at, 45)
-}
-
-// A space, the effect and the end of the line.
-fn put_end(out: &mut [u8], at: usize, t: Turn) -> usize
-    requires { Room (32 ∷ (effect_text (line_in t) ++ (10 ∷ []))) out.old at }
-    ensures { Puts (32 ∷ (effect_text (line_in t) ++ (10 ∷ []))) out.old at result out.new }
-{
-    let effect = put_byte(out, at, 32);
-    let end = put_effect(out, effect, t);
-    put_byte(out, end, 10)
 }
 
 // Entry, party, number, carried order, effect. Public for the schedule, which knows that there is room.
-pub fn put_line(out: &mut [u8], at: usize, entry: u32, e: Entry, t: Turn) -> usize
-    requires { Room (line_text entry (asked_of e) (line_in t)) out.old at }
-    ensures { Puts (line_text entry (asked_of e) (line_in t)) out.old at result out.new }
+pub fn put_line(text: &mut Text, entry: u32, e: Entry, turn: Turn)
+    requires { Room (turn_text entry (asked_of e) turn) text.old }
+    ensures { Puts (turn_text entry (asked_of e) turn) text.old text.new }
 {
-    let party = put_decimal(out, at, entry);
-    let number = put_spaced(out, party, party_of(e) as u32);
-    let carried = put_spaced(out, number, t.number);
-    let end = put_spaced(out, carried, t.carried);
-    put_end(out, end, t)
+    text.put_decimal(entry);
+    text.put_spaced(party_of(e) as u32);
+    text.put_spaced(number(turn.answer));
+    text.put_spaced(carried(turn.answer));
+    text.put_byte(b' ');
+    put_effect(text, turn.effect);
+    text.put_byte(b'\n');
 }
 
 // MAX, divide, parties. Public for the schedule, which knows that there is room.
-pub fn put_header(out: &mut [u8], at: usize, max: u16, divide: u16, parties: u8) -> usize
-    requires { Room (header_text max divide parties) out.old at }
-    ensures { Puts (header_text max divide parties) out.old at result out.new }
+pub fn put_header(text: &mut Text, max: u16, divide: u16, parties: u8)
+    requires { Room (header_text max divide parties) text.old }
+    ensures { Puts (header_text max divide parties) text.old text.new }
 {
-    let first = put_text(out, at, b"strip");
-    let second = put_spaced(out, first, max as u32);
-    let third = put_spaced(out, second, divide as u32);
-    let fourth = put_text(out, third, b" parties");
-    let end = put_spaced(out, fourth, parties as u32);
-    put_byte(out, end, 10)
+    text.put_text(b"strip");
+    text.put_spaced(max as u32);
+    text.put_spaced(divide as u32);
+    text.put_text(b" parties");
+    text.put_spaced(parties as u32);
+    text.put_byte(b'\n');
 }
 
 // Value and counter of a word.
-fn put_word(out: &mut [u8], at: usize, word: u64) -> usize
-    requires { Room (word_text word) out.old at }
-    ensures { Puts (word_text word) out.old at result out.new }
+fn put_word(text: &mut Text, word: u64)
+    requires { Room (word_text word) text.old }
+    ensures { Puts (word_text word) text.old text.new }
 {
-    let dot = put_spaced(out, at, value(word));
-    let end = put_byte(out, dot, 46);
-    put_decimal(out, end, counter(word))
+    text.put_spaced(value(word));
+    text.put_byte(b'.');
+    text.put_decimal(counter(word));
 }
 
-fn put_words(out: &mut [u8], at: usize, strip: &[u64]) -> usize
-    requires { Room (words_text strip.now) out.old at }
-    ensures { Puts (words_text strip.now) out.old at result out.new }
+fn put_words(text: &mut Text, strip: &[u64])
+    requires { Room (words_text strip.now) text.old }
+    ensures { Puts (words_text strip.now) text.old text.new }
 {
-    let mut next = at;
-    let mut i = 0;
-    while i < strip.len() {
-        next = put_word(out, next, strip[i]);
-        i += 1;
+    for word in strip {
+        put_word(text, *word);
     }
-    put_byte(out, next, 10)
+    text.put_byte(b'\n');
 }
 
 // The last line: every word of the strip. Public for the schedule, which knows that there is room.
-pub fn put_cells(out: &mut [u8], at: usize, strip: &[u64]) -> usize
-    requires { Room (cells_text strip.now) out.old at }
-    ensures { Puts (cells_text strip.now) out.old at result out.new }
+pub fn put_cells(text: &mut Text, strip: &[u64])
+    requires { Room (cells_text strip.now) text.old }
+    ensures { Puts (cells_text strip.now) text.old text.new }
 {
-    let words = put_text(out, at, b"cells");
-    put_words(out, words, strip)
+    text.put_text(b"cells");
+    put_words(text, strip);
 }

@@ -5,21 +5,26 @@ ghost use Rattle.std.specs.Prelude.{◌≡◌};
 ghost use Rattle.entry.specs.Entry.{asked_of};
 ghost use Rattle.entry.specs.OnRecord.{on_record_leaves};
 ghost use Rattle.history.specs.Run.{is_step};
-ghost use Rattle.run.specs.Turn.{told_of, turn_of, party_in_16};
+ghost use Rattle.run.specs.Turn.{effect_of, look_of, turn_of, party_in_16};
 
 use entry::{Entry, on_record, party_of};
-use logic::pick_u32;
-use party::Answered;
+use party::{Answer, Answered};
 use record::Record;
+use refusal::Refusal;
 
-// What one entry came to: its line, and the record and the last look that its party is left with.
+// A party of a run: its record, and the entry of its last look.
 #[derive(Clone, Copy)]
-pub struct Turn {
-    pub number: u32,
-    pub carried: u32,
-    pub effect: u32,
+pub struct Party {
     pub rec: Record,
     pub look: u32,
+}
+
+// What one entry came to: its answer, the entry where the operation took effect, if it did, and what its party is left with.
+#[derive(Clone, Copy)]
+pub struct Turn {
+    pub answer: Result<Answer, Refusal>,
+    pub effect: Option<u32>,
+    pub party: Party,
 }
 
 // Where an entry's party stands in arrays of 16. One past the count is turned away, whatever record it is handed.
@@ -32,40 +37,43 @@ pub fn party_in_16(e: Entry) -> usize
 fn is_step(e: Entry) -> bool
     ensures { result ≡ is_step (asked_of e) }
 {
-    match e {
-        Entry::Start(_, _, _) => false,
-        Entry::Step(_, _) => true,
-        Entry::Withdraw(_) => false,
+    matches!(e, Entry::Step(..))
+}
+
+// PUSHED and POPPED took effect at the answering entry, FULL and EMPTY at the party's last look.
+fn effect(answer: Result<Answer, Refusal>, look: u32, entry: u32) -> Option<u32>
+    ensures { result ≡ effect_of answer look entry }
+{
+    match answer {
+        Ok(Answer::Pushed | Answer::Popped(_)) => Some(entry),
+        Ok(Answer::Full | Answer::Empty) => Some(look),
+        Ok(Answer::GoesOn) | Err(_) => None,
     }
 }
 
-// What is told of an answer: FULL and EMPTY took effect at the party's last look.
-fn told(a: Answered, steps: bool, stage: u8, look: u32, entry: u32) -> Turn
-    ensures { result ≡ told_of a steps stage look entry }
+// A step that goes on from stage 1 or 2 has looked.
+fn look(a: Answered, steps: bool, before: Party, entry: u32) -> u32
+    ensures { result ≡ look_of a steps before entry }
 {
-    let answer = a.answer;
-    let rec = a.rec;
-    let number = party::number(answer);
-    let looked = steps & (number == 0) & ((stage == 1) | (stage == 2));
+    let goes_on = matches!(a.answer, Ok(Answer::GoesOn));
+    if steps & goes_on & matches!(before.rec.stage, 1 | 2) {
+        return entry;
+    }
+    before.look
+}
+
+// One entry on its party.
+pub fn take_turn(strip: &mut [u64], parties: u8, party: Party, entry: u32, e: Entry) -> Turn
+    ensures tells { result ≡ turn_of strip.old parties party entry (asked_of e) }
+    ensures words { strip.new ≡ on_record_leaves strip.old parties party.rec (asked_of e) }
+{
+    let a = on_record(strip, parties, party.rec, e);
     Turn {
-        number,
-        carried: party::carried(answer),
-        effect: pick_u32((number == 18) | (number == 19), look, entry),
-        rec,
-        look: pick_u32(looked, entry, look),
+        answer: a.answer,
+        effect: effect(a.answer, party.look, entry),
+        party: Party {
+            rec: a.rec,
+            look: look(a, is_step(e), party, entry),
+        },
     }
-}
-
-// One entry on the record and the last look of its party.
-pub fn take_turn(strip: &mut [u64], parties: u8, r: Record, look: u32, entry: u32, e: Entry) -> Turn
-    ensures tells { result ≡ turn_of strip.old parties r look entry (asked_of e) }
-    ensures words { strip.new ≡ on_record_leaves strip.old parties r (asked_of e) }
-{
-    told(
-        on_record(strip, parties, r, e),
-        is_step(e),
-        r.stage,
-        look,
-        entry,
-    )
 }

@@ -1,3 +1,4 @@
+pub mod Chunks
 pub mod Running
 pub mod Files
 pub mod Refusing

@@ -1,41 +1,26 @@
 -- The run in its rest form: what is left of the calls, from the state now, gives what all of them gave from the first.
-use Prim.Native.Nat.{ℕ, zero, suc, ◌+◌, ◌*◌, ◌-◌, ◌≤◌, ◌<◌}
-use mathlib.Core.Path.{◌≡◌, refl, sym, ◌∙◌, ap}
-use mathlib.Core.List.{List, [], ◌∷◌, ◌++◌}
-use lib.ListN.{length, get_or, set, take, replicate}
+use Prim.Native.Nat.{ℕ, zero, suc, ◌+◌, ◌≤◌, ◌<◌}
+use mathlib.Core.Path.{◌≡◌, refl, sym, ◌∙◌, ap, ap₂}
+use mathlib.Core.List.{List, ◌∷◌, ◌++◌}
+use lib.ListN.{length, get_or, set, take, drop, replicate}
 use native.Mathlib.Omega.{arith}
 use native.Mathlib.Numerals.{add-one}
+use Rattle.std.proofs.lemmas.List.{drop_more, drop_all}
 use Rattle.record.specs.Record.{idle}
 use Rattle.record.specs.declared.Record.{Record}
 use Rattle.call.specs.Call.{Call}
+use Rattle.text.specs.declared.Text.{Text}
 use Rattle.text.specs.Writing.{Puts}
 use Rattle.text.proofs.Puts.{Rest, rest_begins, rest_goes_on, rest_ends, puts_nothing}
-use Rattle.entry.specs.Entry.{call_at}
 use Rattle.entry.specs.OnRecord.{on_record_leaves}
-use Rattle.history.specs.Run.{State, begin, line_of, leaves, lines_from, end_from}
-use Rattle.run.specs.Turn.{turn_of, line_in, party_in_16}
+use Rattle.history.specs.Run.{State, no_call, begin, line_of, leaves, lines_from, end_from}
+use Rattle.run.specs.Turn.{turn_of, party_in_16}
+use Rattle.run.specs.declared.Party.{Party}
 use Rattle.run.specs.declared.Turn.{Turn}
-use Rattle.run.proofs.Entering.{state_of, enters}
+use Rattle.run.proofs.Entering.{no_party, state_of, enters}
 use Rattle.listing.specs.Listing.{line_text, lines_text, run_text}
-use Rattle.schedule.specs.File.{calls_from}
-
--- the calls from entry i on
-abbrev pub calls_left : (file : List ℕ) (count i : ℕ) → List Call
-calls_left file count i = calls_from file (10 + 8 * i) (count - i)
-
-calls_more : (file : List ℕ) (count i : ℕ) → i < count
-    → calls_left file count i ≡ call_at file (10 + 8 * i) ∷ calls_left file count (i + 1)
-unfolding calls_from
-calls_more file count i h =
-    let fewer : count - i ≡ suc (count - (i + 1)) = omega arith in
-    let further : 10 + 8 * i + 8 ≡ 10 + 8 * (i + 1) = omega arith in
-    rw (fewer, further)
-
-calls_none : (file : List ℕ) (count : ℕ) → calls_left file count count ≡ []
-unfolding calls_from
-calls_none file count =
-    let none : count - count ≡ 0 = omega arith in
-    rw none
+use Rattle.listing.specs.Told.{turn_text}
+use Rattle.listing.proofs.Telling.{told_line}
 
 take_replicate : {A : Type 0} (a : A) (n m : ℕ) → n ≤ m → take n (replicate m a) ≡ replicate n a
 take_replicate a zero m h = refl
@@ -57,64 +42,63 @@ pub record Moves (s next : State) (entry : ℕ) (calls rest : List Call) (line :
   pub text : run_text s entry calls ≡ line ++ run_text next (entry + 1) rest
   pub end : end_from s entry calls ≡ end_from next (entry + 1) rest
 
-module _ (file : List ℕ) (parties count : ℕ) (strip : List ℕ) (table : List Record) (looks : List ℕ) (i : ℕ)
-    (few : parties ≤ 16) (table_16 : length table ≡ 16) (looks_16 : length looks ≡ 16) (more : i < count) where
-  pub moves : (call : Call) → call ≡ call_at file (10 + 8 * i) → (j : ℕ) → j ≡ party_in_16 call → (got : Turn) (left : List ℕ)
-      → got ≡ turn_of strip parties (get_or table j idle) (get_or looks j 0) i call → left ≡ on_record_leaves strip parties (get_or table j idle) call
-      → Moves (state_of parties strip table looks) (state_of parties left (set table j got.rec) (set looks j got.look))
-      i (calls_left file count i) (calls_left file count (i + 1)) (line_text i call (line_in got))
+module _ (calls : List Call) (parties : ℕ) (strip : List ℕ) (run : List Party) (i : ℕ)
+    (few : parties ≤ 16) (all_16 : length run ≡ 16) (more : i < length calls) where
+  pub moves : (call : Call) → call ≡ get_or calls i no_call → (j : ℕ) → j ≡ party_in_16 call → (got : Turn) (left : List ℕ)
+      → got ≡ turn_of strip parties (get_or run j no_party) i call → left ≡ on_record_leaves strip parties (get_or run j no_party).rec call
+      → Moves (state_of parties strip run) (state_of parties left (set run j got.party))
+      i (drop i calls) (drop (i + 1) calls) (turn_text i call got)
   moves call is j slot got left tells words =
-      let e = enters parties strip table looks i call few table_16 looks_16 in
+      let e = enters parties strip run i call few all_16 in
       record {
-        text = rw (calls_more file count i more, ← is, text_of, e.line, e.state, tells, words, slot);
-        end = rw (calls_more file count i more, ← is, end_of, e.state, tells, words, slot);
+        text = rw (drop_more calls i no_call more, ← is, text_of, told_line i call _ _ e.line, e.state, tells, words, slot);
+        end = rw (drop_more calls i no_call more, ← is, end_of, e.state, tells, words, slot);
       }
 
-module _ (file first : List ℕ) (parties count : ℕ) (empty : List ℕ) (from : ℕ) where
-  pub record Running (strip out : List ℕ) (table : List Record) (looks : List ℕ) (next i : ℕ) : Type 0 where
-    pub within : i ≤ count
-    pub table_16 : length table ≡ 16
-    pub looks_16 : length looks ≡ 16
+module _ (calls : List Call) (first : List ℕ) (parties : ℕ) (empty : Text) where
+  pub record Running (strip : List ℕ) (text : Text) (run : List Party) (i : ℕ) : Type 0 where
+    pub within : i ≤ length calls
+    pub all_16 : length run ≡ 16
     pub words : length strip ≡ length first
-    pub text : Rest (run_text (begin first parties) 0 (calls_from file 10 count)) empty from
-        (run_text (state_of parties strip table looks) i (calls_left file count i)) out next
-    pub end : end_from (state_of parties strip table looks) i (calls_left file count i)
-        ≡ end_from (begin first parties) 0 (calls_from file 10 count)
+    pub lines : Rest (run_text (begin first parties) 0 calls) empty
+        (run_text (state_of parties strip run) i (drop i calls)) text
+    pub end : end_from (state_of parties strip run) i (drop i calls)
+        ≡ end_from (begin first parties) 0 calls
 
-  pub running_begins : parties ≤ 16 → (r : Record) → r ≡ idle → Running first empty (replicate 16 r) (replicate 16 0) from 0
-  running_begins few r is =
-      let all : count - 0 ≡ count = omega arith in
-      let records = ap (λ (a : Record). take parties (replicate 16 a)) is ∙ take_replicate idle parties 16 few in
-      let looks = take_replicate {A = ℕ} 0 parties 16 few in
+  starts : parties ≤ 16 → (p : Party) → p ≡ no_party → state_of parties first (replicate 16 p) ≡ begin first parties
+  starts few p is =
+      ap (λ (q : Party). state_of parties first (replicate 16 q)) is
+      ∙ ap₂ (λ (table : List Record) (looks : List ℕ). record { strip = first; table = table; looks = looks })
+      (take_replicate idle parties 16 few) (take_replicate {A = ℕ} 0 parties 16 few)
+
+  pub running_begins : parties ≤ 16 → (p : Party) → p ≡ no_party → Running first empty (replicate 16 p) 0
+  running_begins few p is =
       record {
         within = omega arith;
-        table_16 = refl;
-        looks_16 = refl;
+        all_16 = refl;
         words = refl;
-        text = rw (records, looks, all) (rest_begins _ _ _);
-        end = rw (records, looks, all);
+        lines = rw (starts few p is) (rest_begins _ _);
+        end = rw (starts few p is);
       }
 
-  module _ {strip out : List ℕ} {table : List Record} {looks : List ℕ} {next i : ℕ} where
-    pub running_moves : {left : List ℕ} {later : List Record} {seen : List ℕ} {line end : List ℕ} {behind : ℕ}
-        → Running strip out table looks next i → i < count → length later ≡ 16 → length seen ≡ 16 → length left ≡ length strip
-        → Moves (state_of parties strip table looks) (state_of parties left later seen) i (calls_left file count i) (calls_left file count (i + 1)) line
-        → Puts line out next behind end → Running left end later seen behind (i + 1)
-    running_moves {line = line} r more later-16 seen-16 same m puts =
+  module _ {strip : List ℕ} {text : Text} {run : List Party} {i : ℕ} where
+    pub running_moves : {left : List ℕ} {later : List Party} {line : List ℕ} {end : Text}
+        → Running strip text run i → i < length calls → length later ≡ 16 → length left ≡ length strip
+        → Moves (state_of parties strip run) (state_of parties left later) i (drop i calls) (drop (i + 1) calls) line
+        → Puts line text end → Running left end later (i + 1)
+    running_moves {line = line} r more later-16 same m puts =
         record {
           within = omega arith;
-          table_16 = later-16;
-          looks_16 = seen-16;
+          all_16 = later-16;
           words = same ∙ r.words;
-          text = rest_goes_on line _ (rw m.text at r.text) puts;
+          lines = rest_goes_on line _ (rw m.text at r.lines) puts;
           end = sym m.end ∙ r.end;
         }
 
-    pub running_ends : Running strip out table looks next i → count ≤ i
-        → Puts (run_text (begin first parties) 0 (calls_from file 10 count)) empty from next out
-        × (strip ≡ (end_from (begin first parties) 0 (calls_from file 10 count)).strip)
+    pub running_ends : Running strip text run i → length calls ≤ i
+        → Puts (run_text (begin first parties) 0 calls) empty text
+        × (strip ≡ (end_from (begin first parties) 0 calls).strip)
     unfolding lines_text lines_from end_from
     running_ends r done =
-        let last : i ≡ count = omega arith in
-        let none = ap (calls_left file count) last ∙ calls_none file count in
-        (rest_ends (rw none at r.text) (puts_nothing out next), ap (λ (s : State). s.strip) (rw none at r.end))
+        let none = drop_all i calls done in
+        (rest_ends (rw none at r.lines) (puts_nothing text), ap (λ (s : State). s.strip) (rw none at r.end))

@@ -1,6 +1,9 @@
 -- The schedule file: its header, its entries, and when it is refused.
 use Rattle.std.specs.Prelude.{ℕ, zero, suc, ◌+◌, ◌-◌, ◌/◌, ◌%◌, Bool, not, ◌&&◌, List, [], ◌∷◌, length, eqb, leb, ltb}
+use Rattle.std.specs.declared.result.Result.TheVariants.{Err}
 use Rattle.logic.specs.Pick.{pick}
+use Rattle.refusal.specs.declared.Refusal.TheVariants.{WrongSize, WrongMark, Outside}
+use Rattle.refusal.specs.Refusal.{Check, passes}
 use Rattle.little.specs.Bytes.{number_at}
 use Rattle.call.specs.Call.{Call}
 use Rattle.header.specs.Header.{is_marked, version_at, parties_at, max_at, counts_fit}
@@ -18,12 +21,12 @@ abbrev pub entries_of : List ℕ → ℕ
 entries_of file = (length file - 10) / 8
 
 -- 1 for what is too short to have a header, 2 for the mark "PDO" or another version than 1, then 1 for what the header says, then 8
-unfoldable pub file_refusal : List ℕ → ℕ
+unfoldable pub file_refusal : List ℕ → Check
 file_refusal file =
-    pick (ltb (length file) 10) 1
-    (pick (not (is_marked 79 file && eqb (version_at file) 1)) 2
-    (pick (not (counts_fit (max_at file) (parties_at file) && length_fits (length file))) 1
-    (pick (not (leb (divide_at file) (max_at file))) 8 0)))
+    pick (ltb (length file) 10) (Err WrongSize)
+    (pick (not (is_marked 79 file && eqb (version_at file) 1)) (Err WrongMark)
+    (pick (not (counts_fit (max_at file) (parties_at file) && length_fits (length file))) (Err WrongSize)
+    (pick (not (leb (divide_at file) (max_at file))) (Err Outside) passes)))
 
 unfoldable pub calls_from : (file : List ℕ) (at count : ℕ) → List Call
 calls_from file at zero = []

@@ -1,47 +1,46 @@
-// The checks of a schedule file, in document 01's order.
-ghost use Rattle.std.specs.Prelude.{◌≡◌, ◌&&◌, ◌≤◌, length};
-ghost use Rattle.header.specs.Header.{parties_at, max_at, counts_fit};
-ghost use Rattle.schedule.specs.File.{length_fits, file_refusal};
-ghost use Rattle.schedule.specs.List.{list_refusal};
+// The checks of a schedule file, in document 01's order. Each answers what the header says, so that no one reads it again.
+ghost use Rattle.std.specs.Prelude.{◌≡◌};
+ghost use Rattle.schedule.specs.Inside.{header_of, listed_header};
 
-use crate::LISTING_BOUND;
+use crate::{Header, LISTING_BOUND};
 use header::{counts_fit, is_marked, max, parties, version};
-use little::number_2;
-use logic::pick_u32;
+use little::number;
+use refusal::Refusal;
 
-fn length_fits(length: usize) -> bool
-    requires { 10 ≤ length }
-    ensures { result ≡ length_fits length }
-{
-    ((length - 10) % 8 == 0) & ((length - 10) / 8 <= 2048)
-}
-
-fn sizes_fit(file: &[u8]) -> bool
-    requires { 10 ≤ length file.now }
-    ensures { result ≡ counts_fit (max_at file.now) (parties_at file.now) && length_fits (length file.now) }
-{
-    counts_fit(max(file) as u32, parties(file) as u32) & length_fits(file.len())
-}
-
-#[tactic(auto, unfolding(crate::specs::File::file_refusal))]
-fn file_refusal(file: &[u8]) -> u32
-    ensures { result ≡ file_refusal file.now }
+#[tactic(auto, unfolding(crate::specs::Inside::header_of, crate::specs::File::file_refusal))]
+fn read_header(file: &[u8]) -> Result<Header, Refusal>
+    ensures { result ≡ header_of file.now }
 {
     if file.len() < 10 {
-        return 1;
+        return Err(Refusal::WrongSize);
     }
-    let outside = pick_u32(!(number_2(file, 8) <= max(file)), 8, 0);
-    let marked = is_marked(file, b'O') & (version(file) == 1);
-    pick_u32(!marked, 2, pick_u32(!sizes_fit(file), 1, outside))
+    if !(is_marked(file, b'O') & (version(file) == 1)) {
+        return Err(Refusal::WrongMark);
+    }
+    let max = max(file);
+    let parties = parties(file);
+    let behind = file.len() - 10;
+    if !(counts_fit(max as u32, parties as u32) & ((behind % 8 == 0) & (behind / 8 <= 2048))) {
+        return Err(Refusal::WrongSize);
+    }
+    let divide = number::<2>(file, 8) as u16;
+    if max < divide {
+        return Err(Refusal::Outside);
+    }
+    Ok(Header {
+        max,
+        divide,
+        parties,
+    })
 }
 
-#[tactic(auto, unfolding(crate::specs::List::list_refusal))]
-pub fn list_refusal(file: &[u8], words: usize, room: usize) -> u32
-    ensures { result ≡ list_refusal file.now words room }
+// The strip and the room that are lent, then the file.
+#[tactic(auto, unfolding(crate::specs::Inside::header_of, crate::specs::Inside::listed_header, crate::specs::List::list_refusal))]
+pub fn read_listed(file: &[u8], words: usize, room: usize) -> Result<Header, Refusal>
+    ensures { result ≡ listed_header file.now words room }
 {
-    pick_u32(
-        !((words == 4096) & (LISTING_BOUND <= room)),
-        1,
-        file_refusal(file),
-    )
+    if !((words == 4096) & (LISTING_BOUND <= room)) {
+        return Err(Refusal::WrongSize);
+    }
+    read_header(file)
 }

@@ -6,6 +6,7 @@ use lib.ListN.{length, get_or, get_or-append}
 use native.Mathlib.Nat.{zero-add}
 use native.Mathlib.Numerals.{add-one}
 use native.Mathlib.Omega.{arith}
+use Rattle.refusal.specs.Refusal.{passes}
 use Rattle.little.specs.Bytes.{AreBytes}
 use Rattle.call.specs.Call.{Call, party_of}
 use Rattle.header.specs.Header.{parties_at, max_at}
@@ -47,7 +48,7 @@ header_is_cut max divide parties =
       only_piece 32 (decimal parties) (digits_lack 32 (omega arith) 9 parties),
     )
 
-module _ (file : List ℕ) (are : AreBytes file) (taken : file_refusal file ≡ 0) where
+module _ (file : List ℕ) (are : AreBytes file) (taken : file_refusal file ≡ passes) where
   known : Listable file
   known = listable file taken
 

@@ -1,15 +1,14 @@
 -- Demand 3, said of the listing itself: where no check refuses a schedule file, what its listing shows is explained by the plain
 -- strip.
 use Prim.Native.Nat.{ℕ}
-use mathlib.Core.Path.{◌≡◌, refl, sym, ◌∙◌, ap}
-use mathlib.Core.Bool.{not, ◌&&◌}
+use mathlib.Core.Path.{◌≡◌, refl, ◌∙◌}
 use mathlib.Core.List.{List, [], ◌∷◌, map}
 use lib.ListN.{length, take, drop}
-use lib.Dec.{eqb, leb}
 use lib.Seq.{take_at, get_or_at}
 use native.Mathlib.Numerals.{add-one}
+use Rattle.std.specs.declared.result.Result.TheVariants.{Ok}
 use Rattle.logic.specs.Every.{Every}
-use Rattle.logic.proofs.Bools.{passed}
+use Rattle.refusal.specs.Refusal.{passes}
 use Rattle.little.specs.Bytes.{AreBytes}
 use Rattle.word.specs.Word.{IsWord}
 use Rattle.plain.specs.Plain.{fresh_plain}
@@ -19,19 +18,19 @@ use Rattle.history.specs.Run.{Line, lines_from, end_from}
 use Rattle.history.specs.Finished.{finished_of}
 use Rattle.history.specs.Explained.{ExplainedRun}
 use Rattle.history.proofs.EverySchedule.{every_schedule_on_a_fresh_strip_is_explained, no_counter_comes_round_on_a_fresh_strip}
-use Rattle.listing.specs.Listing.{listing_bound}
 use Rattle.listing.proofs.Bounds.{lines_are_bounded}
 use Rattle.schedule.specs.File.{divide_at, entries_of, file_refusal, calls_of}
 use Rattle.schedule.specs.List.{listing_of, first_of, list_refusal, ListPromise}
-use Rattle.schedule.specs.declared.Listed.{Listed}
 use Rattle.schedule.proofs.Files.{Listable, listable, calls_count, calls_fit}
+use Rattle.schedule.proofs.Refusing.{clear}
+use Rattle.schedule.proofs.Kept.{listed}
 use Rattle.shown.specs.Shown.{lines_in, cells_in}
 use Rattle.shown.proofs.Cells.{cells_row, cells_are_shown}
 use Rattle.shown.proofs.Lines.{as_shown, rows_from, each_entry_has_a_row, lines_are_shown}
 use Rattle.shown.proofs.Finishing.{finished_as_shown}
 use Rattle.shown.proofs.Rows.{rows_of_a_listing}
 
-module _ (file : List ℕ) (are : AreBytes file) (taken : file_refusal file ≡ 0) where
+module _ (file : List ℕ) (are : AreBytes file) (taken : file_refusal file ≡ passes) where
   abbrev max : ℕ
   max = max_at file
 
@@ -86,24 +85,20 @@ module _ (file : List ℕ) (are : AreBytes file) (taken : file_refusal file ≡ 
       (every_schedule_on_a_fresh_strip_is_explained max divide (parties_at file) calls known.max_low known.max_high known.inside
       (calls_fit file are))
 
--- What list writes where it answers 0 is such a listing.
-module _ (file strip out : List ℕ) (are : AreBytes file) (got : Listed) (words bytes : List ℕ)
-    (kept : ListPromise file strip out got words bytes) (done : got.number ≡ 0) where
+-- What list writes where it answers a length is such a listing.
+module _ (file strip out : List ℕ) (are : AreBytes file) (long : ℕ) (words bytes : List ℕ)
+    (kept : ListPromise file strip out (Ok long) words bytes) where
   abbrev written : List ℕ
-  written = take got.length bytes
+  written = take long bytes
 
-  none : list_refusal file (length strip) (length out) ≡ 0
-  none = ap (λ (l : Listed). l.number) (sym kept.gives) ∙ done
-
-  taken : file_refusal file ≡ 0
-  unfolding list_refusal
-  taken = (passed (not (eqb (length strip) 4096 && leb listing_bound (length out))) 0 (file_refusal file) none).1
+  done : (list_refusal file (length strip) (length out) ≡ passes) × (long ≡ length (listing_of file))
+  done = listed file strip out words bytes long kept
 
   the_listing_is_written : written ≡ listing_of file
   the_listing_is_written =
-      let long = ap (λ (l : Listed). l.length) kept.gives in
-      rw (kept.bytes_left, long, none) (take_at (listing_of file) (drop (length (listing_of file)) out) (length (listing_of file)) refl)
+      rw (kept.bytes_left, done.1, done.0) (take_at (listing_of file) (drop (length (listing_of file)) out) (length (listing_of file)) refl)
 
   pub every_listing_that_list_writes_is_explained :
       ExplainedRun (fresh_plain (max_at file) (divide_at file)) (parties_at file) (calls_of file) (lines_in file written) (cells_in file written)
-  every_listing_that_list_writes_is_explained = rw the_listing_is_written (every_listing_is_explained file are taken)
+  every_listing_that_list_writes_is_explained =
+      rw the_listing_is_written (every_listing_is_explained file are (clear file (length strip) (length out) done.0).file_passes)

@@ -1,30 +1,35 @@
--- The digits of a number, the last one apart.
-use Prim.Native.Nat.{ℕ, zero, suc, ◌+◌, ◌-◌, ◌/◌, ◌%◌, ◌<◌}
+-- The library prints the same digits, so that its laws hold of them.
+use Prim.Native.Nat.{ℕ, zero, suc, ◌+◌, ◌/◌, ◌%◌, ◌≤◌, ◌<◌, ◌^◌}
 use mathlib.Core.Path.{◌≡◌}
-use mathlib.Core.Bool.{true, false, ◌||◌, true≢false}
-use mathlib.Core.List.{[], ◌∷◌, ◌++◌}
-use lib.Dec.{eqb, ltb}
-use borrow.Author.Tests.{ltb-true, ne_eqb}
+use mathlib.Core.List.{List, [], ◌∷◌, ◌++◌}
+use lib.ListN.{length}
+use borrow.Author.Tests.{lt-ltb, le-ltb}
 use native.Mathlib.Omega.{arith}
-use native.Mathlib.Numerals.{sub-one}
-use Rattle.text.specs.Text.{digits_of}
+use Rattle.std.specs.Fmt.{decimal}
+use Rattle.std.proofs.lemmas.Fmt.{decimal_by_steps, length-decimal-le}
+use Rattle.text.specs.Text.{digits_of, decimal as in_digits}
+use Rattle.text.proofs.Lengths.{tens}
 
-more_than_none : (most : ℕ) → eqb (suc most) 0 ≡ false
-more_than_none most = ne_eqb (suc most) 0 (λ e. omega arith)
+Same : ℕ → List ℕ → Type 0
+Same number digits = (most : ℕ) → number < tens most → digits_of most number ≡ digits
 
-module _ (byte number : ℕ) (is : byte ≡ 48 + number % 10) where
-  -- One digit is left where no more are wanted or the number is below ten.
-  pub last_digit : (most : ℕ) → eqb most 0 || ltb number 10 ≡ true → digits_of most number ≡ byte ∷ []
-  unfolding digits_of
-  last_digit zero e = rw is
-  last_digit (suc most) e =
-      let test = rw (more_than_none most) at e in
-      let below = ltb-true number 10 test in
-      let same : 48 + number ≡ byte = omega arith in
-      rw (test, same)
+one : (number : ℕ) → number < 10 → Same number ((48 + number) ∷ [])
+unfolding Same digits_of
+one number h zero fits =
+    let low : number % 10 ≡ number = omega arith in
+    rw low
+one number h (suc most) fits = rw (lt-ltb number 10 h)
 
-  pub more_digits : (most : ℕ) → eqb most 0 || ltb number 10 ≡ false
-      → (0 < most) × (digits_of most number ≡ digits_of (most - 1) (number / 10) ++ (byte ∷ []))
-  unfolding digits_of
-  more_digits zero e = absurd (true≢false e)
-  more_digits (suc most) e = (omega arith, rw (rw (more_than_none most) at e, is, sub-one (suc most)))
+more : (number : ℕ) (digits : List ℕ) → 10 ≤ number → Same (number / 10) digits → Same number (digits ++ ((48 + number % 10) ∷ []))
+unfolding Same digits_of
+more number digits h same zero fits = absurd (omega arith)
+more number digits h same (suc most) fits = rw (le-ltb number 10 h, same most (omega arith))
+
+-- a number of 32 bits
+pub decimal_is_printed : (number : ℕ) → number < 2 ^ 32 → in_digits number ≡ decimal number
+unfolding Same
+decimal_is_printed number small = decimal_by_steps Same one more number (omega arith) 9 (omega arith)
+
+pub decimal_is_short : (k number : ℕ) → 0 < k → number < 10 ^ k → number < 2 ^ 32 → length (in_digits number) ≤ k
+decimal_is_short k number some fits small =
+    rw (decimal_is_printed number small) (length-decimal-le k number some fits (omega arith))

@@ -1,61 +1,70 @@
 -- Text written behind text.
-use Prim.Native.Nat.{ℕ, ◌+◌, ◌<◌}
+use Prim.Native.Nat.{ℕ, ◌+◌, ◌-◌, ◌≤◌}
 use mathlib.Core.Path.{◌≡◌, refl, sym, ◌∙◌}
-use mathlib.Core.List.{List, [], ◌++◌}
-use lib.ListN.{length, get_or, take, set, length-append}
-use lib.Seq.{sets, take-suc, length-take-le}
+use mathlib.Core.List.{List, [], ◌++◌, append_assoc}
+use lib.ListN.{length, length-append}
+use lib.Seq.{sets, sets-eq, length-sets}
+use borrow.Rule.Slice.PartMut.{put_mid}
 use native.Mathlib.Omega.{arith}
-use native.Mathlib.Numerals.{add-one}
+use Rattle.std.proofs.Common.{drop-drop}
 use Rattle.little.proofs.Runs.{run_append}
 use Rattle.text.specs.Writing.{Room, Puts}
+use Rattle.text.specs.declared.Text.{Text}
 
-module _ (a b : List ℕ) {out : List ℕ} {at : ℕ} where
-  pub room_left : Room (a ++ b) out at → Room a out at
+module _ (a b : List ℕ) {text : Text} where
+  pub room_left : Room (a ++ b) text → Room a text
   room_left h = record { fits = omega (arith, length-append a b) }
 
-  pub room_right : {next : ℕ} {left : List ℕ} → Room (a ++ b) out at → Puts a out at next left → Room b left next
+  pub room_right : {left : Text} → Room (a ++ b) text → Puts a text left → Room b left
   room_right h p = record { fits = omega (arith, length-append a b) }
 
-  pub puts_then : {middle next : ℕ} {left end : List ℕ} → Puts a out at middle left → Puts b left middle next end
-      → Puts (a ++ b) out at next end
+  pub puts_then : {middle left : Text} → Puts a text middle → Puts b middle left → Puts (a ++ b) text left
   puts_then p q =
       record {
+        same = q.same ∙ p.same;
         behind = omega (arith, length-append a b);
-        bytes = q.bytes ∙ rw (p.bytes, p.behind) (sym (run_append a b out at));
+        bytes = q.bytes ∙ rw (p.bytes, p.behind) (sym (run_append a b text.out.now text.at));
         long = q.long ∙ p.long;
       }
 
--- One byte more of a text that is copied.
-pub copied_one_more : (out text : List ℕ) (at i : ℕ) → i < length text
-    → set (sets out at (take i text)) (at + i) (get_or text i 0) ≡ sets out at (take (i + 1) text)
-copied_one_more out text at i h =
-    rw (add-one, take-suc text i 0, run_append, length-take-le i text (omega arith))
+-- What a copy of more text into the part from `at` on leaves of all bytes.
+pub copied : (out more part : List ℕ) (at : ℕ) → at + length more ≤ length out → part ≡ more
+    → let left = put_mid at (at + length more - at) out part in (left ≡ sets out at more) × (length left ≡ length out)
+copied out more part at fits is =
+    let long : at + length more - at ≡ length more = omega arith in
+    rw (long, is, drop-drop, ← append_assoc, ← sets-eq more out at fits) (refl, length-sets out at more)
 
 -- In the middle of writing a text: the rest of it, written from here on, leaves what the whole leaves.
-pub record Rest (whole first : List ℕ) (from : ℕ) (rest out : List ℕ) (at : ℕ) : Type 0 where
-  pub long : length out ≡ length first
-  pub there : at + length rest ≡ from + length whole
-  pub bytes : sets out at rest ≡ sets first from whole
+pub record Rest (whole : List ℕ) (first : Text) (rest : List ℕ) (text : Text) : Type 0 where
+  pub same : text.out.ghost_name ≡ first.out.ghost_name
+  pub long : length text.out.now ≡ length first.out.now
+  pub there : text.at + length rest ≡ first.at + length whole
+  pub bytes : sets text.out.now text.at rest ≡ sets first.out.now first.at whole
 
-pub rest_begins : (whole out : List ℕ) (at : ℕ) → Rest whole out at whole out at
-rest_begins whole out at = record { long = refl; there = refl; bytes = refl }
+pub rest_begins : (whole : List ℕ) (text : Text) → Rest whole text whole text
+rest_begins whole text = record { same = refl; long = refl; there = refl; bytes = refl }
 
-module _ {whole first : List ℕ} {from : ℕ} {out : List ℕ} {at : ℕ} where
-  pub rest_room : {rest : List ℕ} → Room whole first from → Rest whole first from rest out at → Room rest out at
+module _ {whole : List ℕ} {first text : Text} where
+  pub rest_room : {rest : List ℕ} → Room whole first → Rest whole first rest text → Room rest text
   rest_room room r = record { fits = omega arith }
 
-  pub rest_goes_on : (a b : List ℕ) {next : ℕ} {left : List ℕ} → Rest whole first from (a ++ b) out at → Puts a out at next left
-      → Rest whole first from b left next
+  pub rest_goes_on : (a b : List ℕ) {left : Text} → Rest whole first (a ++ b) text → Puts a text left → Rest whole first b left
   rest_goes_on a b r p =
       record {
+        same = p.same ∙ r.same;
         long = p.long ∙ r.long;
         there = omega (arith, length-append a b);
-        bytes = rw (p.bytes, p.behind) (sym (run_append a b out at) ∙ r.bytes);
+        bytes = rw (p.bytes, p.behind) (sym (run_append a b text.out.now text.at) ∙ r.bytes);
       }
 
-  pub rest_ends : {rest : List ℕ} {next : ℕ} {left : List ℕ} → Rest whole first from rest out at → Puts rest out at next left
-      → Puts whole first from next left
-  rest_ends r p = record { behind = p.behind ∙ r.there; bytes = p.bytes ∙ r.bytes; long = p.long ∙ r.long }
+  pub rest_ends : {rest : List ℕ} {left : Text} → Rest whole first rest text → Puts rest text left → Puts whole first left
+  rest_ends r p =
+      record {
+        same = p.same ∙ r.same;
+        behind = p.behind ∙ r.there;
+        bytes = p.bytes ∙ r.bytes;
+        long = p.long ∙ r.long;
+      }
 
-pub puts_nothing : (out : List ℕ) (at : ℕ) → Puts [] out at at out
-puts_nothing out at = record { behind = omega arith; bytes = refl; long = refl }
+pub puts_nothing : (text : Text) → Puts [] text text
+puts_nothing text = record { same = refl; behind = omega arith; bytes = refl; long = refl }

@@ -2,13 +2,15 @@
 -- write say of themselves.
 use Rattle.std.specs.Prelude.{ℕ, ◌+◌, ◌≤◌, ◌≡◌, List, length}
 use Rattle.std.proofs.lemmas.List.Edits.{sets}
+use Rattle.text.specs.declared.Text.{Text}
 
--- the text fits from `at` on
-pub record Room (text out : List ℕ) (at : ℕ) : Type 0 where
-  pub fits : at + length text ≤ length out
+-- more text fits behind what stands there
+pub record Room (more : List ℕ) (text : Text) : Type 0 where
+  pub fits : text.at + length more ≤ length text.out.now
 
--- the text stands in the bytes from `at` on, every other byte is as it was, and `next` is the place behind it
-pub record Puts (text out : List ℕ) (at next : ℕ) (left : List ℕ) : Type 0 where
-  pub behind : next ≡ at + length text
-  pub bytes : left ≡ sets out at text
-  pub long : length left ≡ length out
+-- in the same lent bytes, more text stands from the place on, every other byte is as it was, and the place is behind it now
+pub record Puts (more : List ℕ) (text left : Text) : Type 0 where
+  pub same : left.out.ghost_name ≡ text.out.ghost_name
+  pub behind : left.at ≡ text.at + length more
+  pub bytes : left.out.now ≡ sets text.out.now text.at more
+  pub long : length left.out.now ≡ length text.out.now

@@ -1,63 +1,58 @@
-// Text into lent bytes, one piece behind the other. Each answers the place behind what it wrote, and asks that there is room.
+// Text into lent bytes, one piece behind the other.
 #![tactic(auto)]
 
-ghost use Rattle.std.specs.Prelude.{◌≡◌, ◌∷◌, [], ◌+◌, ◌%◌};
-ghost use Rattle.text.specs.Text.{digits_of, decimal, spaced};
+ghost use Rattle.std.specs.Prelude.{◌≡◌, ◌∷◌, []};
+ghost use Rattle.text.specs.Text.{decimal, spaced};
 ghost use Rattle.text.specs.Writing.{Room, Puts};
 
-// One byte. Public for the listing, which knows that there is room.
-pub fn put_byte(out: &mut [u8], at: usize, byte: u8) -> usize
-    requires { Room (byte ∷ []) out.old at }
-    ensures { Puts (byte ∷ []) out.old at result out.new }
-{
-    out[at] = byte;
-    at + 1
+use itoa::Buffer;
+
+// Lent bytes, and the place behind the text that was put into them. Each method puts more text there, and asks that there is room.
+// No Vec: the bytes are lent and list has no heap.
+#[derive(Drop)]
+pub struct Text<'a> {
+    pub out: &'a mut [u8],
+    pub at: usize,
 }
 
-// Bytes as they stand. Public for the listing, which knows that there is room.
-pub fn put_text(out: &mut [u8], at: usize, text: &[u8]) -> usize
-    requires { Room text.now out.old at }
-    ensures { Puts text.now out.old at result out.new }
-{
-    let mut i = 0;
-    while i < text.len() {
-        out[at + i] = text[i];
-        i += 1;
+// Not by write!, which says what was written only where it answers Ok, and never that it does: these cannot fail.
+impl Text<'_> {
+    // One byte. Public for the listing, which knows that there is room.
+    pub fn put_byte(&mut self, byte: u8)
+        requires { Room (byte ∷ []) self.old }
+        ensures { Puts (byte ∷ []) self.old self.new }
+    {
+        self.put_text(&[byte]);
     }
-    at + i
-}
 
-fn digit(number: u32) -> u8
-    ensures { result ≡ 48 + number % 10 }
-{
-    (48 + number % 10) as u8
-}
-
-// The digits of a number with at most `most` digits more than one.
-fn put_digits(out: &mut [u8], at: usize, most: u8, number: u32) -> usize
-    requires { Room (digits_of most number) out.old at }
-    ensures { Puts (digits_of most number) out.old at result out.new }
-{
-    if (most == 0) | (number < 10) {
-        return put_byte(out, at, digit(number));
+    // Bytes as they stand. Public for the listing, which knows that there is room.
+    #[tactic(auto, using(crate::proofs::Puts::copied))]
+    pub fn put_text(&mut self, text: &[u8])
+        requires { Room text.now self.old }
+        ensures { Puts text.now self.old self.new }
+    {
+        let Text { out, at } = self;
+        let end = *at + text.len();
+        out[*at..end].copy_from_slice(text);
+        *at = end;
     }
-    let last = put_digits(out, at, most - 1, number / 10);
-    put_byte(out, last, digit(number))
-}
 
-// A number in decimal. Public for the listing, which knows that there is room.
-pub fn put_decimal(out: &mut [u8], at: usize, number: u32) -> usize
-    requires { Room (decimal number) out.old at }
-    ensures { Puts (decimal number) out.old at result out.new }
-{
-    put_digits(out, at, 9, number)
-}
+    // A number in decimal. Public for the listing, which knows that there is room.
+    #[tactic(auto, using(crate::proofs::Digits::decimal_is_printed))]
+    pub fn put_decimal(&mut self, number: u32)
+        requires { Room (decimal number) self.old }
+        ensures { Puts (decimal number) self.old self.new }
+    {
+        let mut digits = Buffer::new();
+        self.put_text(digits.format(number).as_bytes());
+    }
 
-// A space and a number. Public for the listing, which knows that there is room.
-pub fn put_spaced(out: &mut [u8], at: usize, number: u32) -> usize
-    requires { Room (spaced number) out.old at }
-    ensures { Puts (spaced number) out.old at result out.new }
-{
-    let digits = put_byte(out, at, 32);
-    put_decimal(out, digits, number)
+    // A space and a number. Public for the listing, which knows that there is room.
+    pub fn put_spaced(&mut self, number: u32)
+        requires { Room (spaced number) self.old }
+        ensures { Puts (spaced number) self.old self.new }
+    {
+        self.put_byte(b' ');
+        self.put_decimal(number);
+    }
 }

@@ -3,6 +3,8 @@ use Rattle.listing.proofs.put_line.Goals as goal
 
 pub returns : goal.returns
 returns c =
-    let puts-party = rw c.party_of.ensures at c.put_spaced-number.ensures in
-    puts_then _ _ c.put_decimal-party.ensures (puts_then _ _ puts-party
-    (puts_then _ _ c.put_spaced-carried.ensures (puts_then _ _ c.put_spaced-end.ensures c.put_end.ensures)))
+    let party = rw c.party_of.ensures at c.put_spaced.ensures in
+    let number = rw c.number.ensures at c.put_spaced-2.ensures in
+    let carried = rw c.carried.ensures at c.put_spaced-3.ensures in
+    puts_then _ _ c.put_decimal.ensures (puts_then _ _ party (puts_then _ _ number (puts_then _ _ carried
+    (puts_then _ _ c.put_byte.ensures (puts_then _ _ c.put_effect.ensures c.put_byte-2.ensures)))))

@@ -3,6 +3,6 @@ use Rattle.listing.proofs.put_word.Goals as goal
 
 pub returns : goal.returns
 returns c =
-    let puts-value = rw c.value.ensures at c.put_spaced-dot.ensures in
-    let puts-counter = rw c.counter.ensures at c.put_decimal.ensures in
-    puts_then _ _ puts-value (puts_then _ _ c.put_byte-end.ensures puts-counter)
+    let value = rw c.value.ensures at c.put_spaced.ensures in
+    let counter = rw c.counter.ensures at c.put_decimal.ensures in
+    puts_then _ _ value (puts_then _ _ c.put_byte.ensures counter)
