@@ -1,4 +1,4 @@
--- The table of 17 records that the text doors hold and lend, and what is known of it.
+-- What was known of a table of 17 records that the text doors held by value and lent, for walks by hand.
 use Prim.Native.Nat.{ℕ, ◌≤◌}
 use mathlib.Core.Path.{◌≡◌}
 use mathlib.Core.List.{List}

@@ -1,156 +1,86 @@
-// A line, and its fields.
-ghost use Rattle.std.specs.Prelude.{◌≡◌, ◌≤◌, length, IfOk};
+// A line, of which one field after another is taken.
+ghost use Rattle.std.specs.Prelude.{ℕ, ◌≡◌, ◌≢◌, ◌≤◌, ◌<◌, ◌↔◌, [], true, false, get_or, length, IsSome, IfSome};
+ghost use Rattle.std.specs.List.{list_all};
+ghost use Rattle.console.specs.Fields.{is_blank, is_ink, blanks, field_length, field_of, rest_of};
 
-use std::io;
-use std::io::Read;
+// No line has more numbers.
+const MOST_NUMBERS: usize = 4224;
 
-// Room for the longest line, which writes an image: 4,097 words and 17 records, each number a blank and up to 20 digits, and 33,352 bytes,
-// which is more than the largest image has, so that one that is too long can be shown.
-pub fn line_room() -> [u8; 163840] {
-    [0; 163840]
+// What is left of a line, and how many numbers may yet be taken.
+#[derive(Drop)]
+pub struct Line<'a> {
+    pub text: &'a [u8],
+    pub numbers: usize,
 }
 
-// What a read gives: a byte, or the end of the input.
-#[derive(Clone, Copy)]
-enum Got {
-    Byte(u8),
-    End,
+// Not is_ascii_whitespace, which leaves out 11.
+fn is_blank(b: u8) -> bool
+    ensures { result ≡ is_blank b }
+{
+    matches!(b, 9..=13 | 32)
 }
 
-fn next_byte(input: &mut impl Read) -> io::Result<Got> {
-    let mut byte = [0u8; 1];
-    if input.read(&mut byte)? < 1 {
-        return Ok(Got::End);
-    }
-    Ok(Got::Byte(byte[0]))
+fn is_ink(b: u8) -> bool
+    ensures { result ≡ is_ink b }
+{
+    !is_blank(b)
 }
 
-fn keep(line: &mut [u8], at: usize, b: u8) {
-    if at < line.len() {
-        line[at] = b;
-    }
+// The place of the first byte that passes a test, or the text's length.
+fn first<F: Fn(u8) -> bool>(text: &[u8], test: F) -> usize
+    requires { F.IsAlwaysCallable test }
+    ensures bound { result ≤ length text.now }
+    ensures before { (i : ℕ) → i < result → F.post test (get_or text.now i 0) false }
+    ensures at { result < length text.now → F.post test (get_or text.now result 0) true }
+{
+    text.iter().position(|b| test(*b)).unwrap_or(text.len())
 }
 
-// Reads up to the end of a line, and answers how many bytes it has with its newline: 0 at the end of the input. What the buffer has no
-// place for is read and counted, and not kept.
-fn read_all(input: &mut impl Read, line: &mut [u8]) -> io::Result<usize> {
-    let mut n: usize = 0;
-    while n < 4294967295 {
-        let Got::Byte(b) = next_byte(input)? else {
-            return Ok(n);
-        };
-        keep(line, n, b);
-        n += 1;
-        if b == 10 {
-            return Ok(n);
+#[tactic(auto, using(crate::proofs::Fields::first_at))]
+fn blanks(text: &[u8]) -> usize
+    ensures value { result ≡ blanks text.now }
+    ensures bound { result ≤ length text.now }
+{
+    first(text, is_ink)
+}
+
+#[tactic(auto, using(crate::proofs::Fields::first_at))]
+fn field_length(text: &[u8]) -> usize
+    ensures value { result ≡ field_length text.now }
+    ensures bound { result ≤ length text.now }
+{
+    first(text, is_blank)
+}
+
+impl<'a> Line<'a> {
+    pub fn new(text: &'a [u8]) -> Self
+        ensures all { result.text.now ≡ text.now }
+        ensures numbers { result.numbers ≡ 4224 }
+    {
+        Line {
+            text,
+            numbers: MOST_NUMBERS,
         }
     }
-    Ok(n)
-}
 
-// Reads a line, and answers how many bytes it has with its newline: 0 at the end of the input. For a line that the buffer has no place for
-// stands an empty one. A read that fails is answered as it came; the buffer then holds what was read before it, and is as long as it was.
-// Public for the text doors, whose buffer has room.
-pub fn read_line(input: &mut impl Read, line: &mut [u8]) -> io::Result<usize>
-    requires { 1 ≤ length line.old }
-    ensures within { IfOk result (λ n. n ≤ length line.new) }
-    ensures kept { length line.new ≡ length line.old }
-{
-    let n = read_all(input, line)?;
-    if n <= line.len() {
-        return Ok(n);
+    // The next field, which blanks end.
+    #[tactic(auto, unfolding(crate::specs::Fields::field_of, crate::specs::Fields::rest_of))]
+    pub fn field(&mut self) -> Option<&'a [u8]>
+        ensures found { IsSome result ↔ (field_of self.old.text.now ≢ []) }
+        ensures value { IfSome result (λ f. f.now ≡ field_of self.old.text.now) }
+        ensures rest { self.new.text.now ≡ rest_of self.old.text.now }
+        ensures left { self.new.numbers ≡ self.old.numbers }
+    {
+        let text = &self.text[blanks(self.text)..];
+        let (field, rest) = text.split_at(field_length(text));
+        self.text = rest;
+        if field.is_empty() { None } else { Some(field) }
     }
-    keep(line, 0, 10);
-    Ok(1)
-}
 
-fn is_blank(b: u8) -> bool {
-    (b == 32) | ((9 <= b) & (b <= 13))
-}
-
-// The first place, from a place on, that is not blank, or where asked the first that is; the line's end where there is none.
-// Public for numbers and bytes, which begin inside the line.
-pub fn skip(line: &[u8], from: usize, blank: bool) -> usize
-    requires { from ≤ length line.now }
-    ensures lower_bound { from ≤ result }
-    ensures upper_bound { result ≤ length line.now }
-{
-    let mut i = from;
-    while i < line.len() {
-        if is_blank(line[i]) != blank {
-            return i;
-        }
-        i += 1;
+    // Whether no field is left.
+    pub fn is_done(&self) -> bool
+        ensures { result ≡ list_all is_blank self.now.text.now }
+    {
+        self.text.iter().all(|b| is_blank(*b))
     }
-    i
-}
-
-// The same from a place back to another: the place after the first met that is not blank, or where asked that is.
-fn back(line: &[u8], to: usize, from: usize, blank: bool) -> usize
-    requires to_le_from { to ≤ from }
-    requires from_in_bounds { from ≤ length line.now }
-    ensures lower_bound { to ≤ result }
-    ensures upper_bound { result ≤ from }
-{
-    let mut i = from;
-    while to < i {
-        if is_blank(line[i - 1]) != blank {
-            return i;
-        }
-        i -= 1;
-    }
-    i
-}
-
-// The place after the first field from a place on. Public for the text doors, which begin inside the line.
-pub fn past(line: &[u8], from: usize) -> usize
-    requires { from ≤ length line.now }
-    ensures { result ≤ length line.now }
-{
-    skip(line, skip(line, from, true), false)
-}
-
-// Where the last field begins that stands from a place on. Public for the text doors, which begin inside the line.
-pub fn last(line: &[u8], from: usize) -> usize
-    requires { from ≤ length line.now }
-    ensures lower_bound { from ≤ result }
-    ensures upper_bound { result ≤ length line.now }
-{
-    back(line, from, back(line, from, line.len(), true), false)
-}
-
-pub fn same(a: &[u8], b: &[u8]) -> bool {
-    if a.len() != b.len() {
-        return false;
-    }
-    let mut i = 0;
-    while i < a.len() {
-        if a[i] != b[i] {
-            return false;
-        }
-        i += 1;
-    }
-    true
-}
-
-// How many names stand before the one that a field is; as many as there are, or more, where it is none. Blanks stand between names.
-fn before(field: &[u8], names: &[u8]) -> usize {
-    let mut at = 0;
-    for n in 0..names.len() {
-        let end = skip(names, at, false);
-        if same(field, &names[at..end]) {
-            return n;
-        }
-        at = skip(names, end, true);
-    }
-    names.len()
-}
-
-// The same of the first field from a place on. Public for the text doors, which begin inside the line.
-pub fn which(line: &[u8], from: usize, names: &[u8]) -> usize
-    requires { from ≤ length line.now }
-{
-    let start = skip(line, from, true);
-    let end = skip(line, start, false);
-    before(&line[start..end], names)
 }

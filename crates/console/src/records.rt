@@ -1,62 +1,68 @@
-// A record as numbers, read and written. No other place of the text doors names its fields.
-ghost use Rattle.std.specs.Prelude.{◌≤◌, length};
+// A record as six numbers, and a table as records after their count. No other place of the text doors names a record's fields.
+ghost use Rattle.std.specs.Prelude.{◌≡◌, ◌+◌, ◌≤◌, IfOk, OnOk, vec_len};
+ghost use Rattle.std.specs.List.{flat_map};
+ghost use Rattle.console.specs.Fields.{field_of, rest_of};
+ghost use Rattle.console.specs.Numbers.{number_of, Reads};
+ghost use Rattle.console.specs.Records.{numbers_of};
 
-use crate::number::compared;
-use crate::say::more;
+use crate::answer::Unanswered;
+use crate::line::Line;
+use crate::number::narrow;
 use record::Record;
-use record::make::idle_record;
-use std::io;
+use std::alloc::Global;
+use std::fmt;
 
-// Whether six numbers after a first fit a record. Public for tables, which have counted the numbers.
-pub fn fits_record(given: &[u64]) -> bool
-    requires { 7 ≤ length given.now }
-{
-    (given[1] < 256) & (given[2] < 256) & (given[3] < 65536) & (given[4] < 4294967296)
-}
+// One record more than a table may have, so that a table that is too long can be shown.
+pub const MOST_RECORDS: usize = 17;
 
-// The record that stands after a first number. Its fields were compared by fits_record. Public for tables, which have counted the numbers.
-pub fn record_of(given: &[u64]) -> Record
-    requires { 7 ≤ length given.now }
-{
-    Record {
-        operation: (given[1] % 256) as u8,
-        stage: (given[2] % 256) as u8,
-        k: (given[3] % 65536) as u16,
-        v: (given[4] % 4294967296) as u32,
-        first: given[5],
-        second: given[6],
+impl Line<'_> {
+    // Six numbers, which fit a record's fields.
+    pub fn record(&mut self) -> Result<Record, Unanswered>
+        ensures left { OnOk result (self.new.numbers + 6 ≡ self.old.numbers) }
+        ensures value { IfOk result (λ r. Reads self.old.text.now (numbers_of r) self.new.text.now) }
+    {
+        Ok(Record {
+            operation: narrow(self.number()?)?,
+            stage: narrow(self.number()?)?,
+            k: narrow(self.number()?)?,
+            v: narrow(self.number()?)?,
+            first: self.number()?,
+            second: self.number()?,
+        })
+    }
+
+    // The records of a table, after their count.
+    #[tactic(auto, using(crate::proofs::Reading::one_more_record))]
+    pub fn table(&mut self, alloc: Global) -> Result<Vec<Record>, Unanswered>
+        ensures bound { IfOk result (λ table. vec_len table ≤ 17) }
+        ensures count { IfOk result (λ table. number_of (field_of self.old.text.now) ≡ Some (vec_len table)) }
+        ensures value { IfOk result (λ table. Reads (rest_of self.old.text.now) (flat_map numbers_of table.items) self.new.text.now) }
+    {
+        let mut table = Vec::new(alloc);
+        for _ in 0..self.count(MOST_RECORDS)? {
+            table.push(self.record()?)?;
+        }
+        Ok(table)
     }
 }
 
-// What a command on one record is given first: a number that is compared, and the record; and whether they are there and fit.
+// Records, a blank before each number.
 #[derive(Clone, Copy)]
-pub struct Handed {
-    pub fits: bool,
-    pub first: u32,
-    pub rec: Record,
-}
+pub struct Records<'a>(pub &'a [Record]);
 
-pub fn first_record(given: &[u64]) -> Handed {
-    if given.len() < 7 {
-        return Handed {
-            fits: false,
-            first: 0,
-            rec: idle_record(),
-        };
+impl fmt::Display for Records<'_> {
+    fn fmt<W: fmt::Write>(&self, f: &mut fmt::Formatter<W>) -> fmt::Result {
+        for r in self.0 {
+            let Record {
+                operation,
+                stage,
+                k,
+                v,
+                first,
+                second,
+            } = *r;
+            write!(f, " {operation} {stage} {k} {v} {first} {second}")?;
+        }
+        Ok(())
     }
-    Handed {
-        fits: fits_record(given),
-        first: compared(given[0]),
-        rec: record_of(given),
-    }
-}
-
-// An error is a write's, as in `say`.
-pub fn say_record(rt: &impl Print, r: Record) -> io::Result<()> {
-    more(rt, r.operation as u64)?;
-    more(rt, r.stage as u64)?;
-    more(rt, r.k as u64)?;
-    more(rt, r.v as u64)?;
-    more(rt, r.first)?;
-    more(rt, r.second)
 }

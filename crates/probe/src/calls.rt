@@ -1,110 +1,71 @@
-// Each command: its numbers are handed to the proved call, and what that gives is written. False where they are not what it takes.
-// An error is a write's; what was lent is then as the proved call left it.
-use console::number::{compared, number_at};
-use console::records::{first_record, say_record};
-use console::say::{first, more, words};
-use find::Found;
+// Each command: its numbers are handed to the proved call, and what that gives is written.
+// What ends the program is a write that fails, or memory that runs out.
+use console::answer::Outcome;
+use console::line::Line;
+use console::number::{Words, check_number};
+use console::records::Records;
 use party::{Answered, carried, number};
-use std::io;
-use strip::{Laid, Measured};
+use refusal::Refusal;
 
 // The number, the carried order and the record.
-fn answered(rt: &impl Print, got: Answered) -> io::Result<()> {
-    let answer = got.answer;
-    let r = got.rec;
-    first(rt, number(answer) as u64)?;
-    more(rt, carried(answer) as u64)?;
-    say_record(rt, r)
+fn say(rt: &impl Print, got: Answered) -> Outcome {
+    let Answered { answer, rec } = got;
+    print!(rt; "{} {}{}", number(answer), carried(answer), Records(&[rec]))?;
+    Ok(())
 }
 
-pub fn lay(rt: &impl Print, given: &mut [u64]) -> io::Result<bool> {
-    if given.len() < 1 {
-        return Ok(false);
-    }
-    let divide = compared(given[0]);
-    match strip::lay(&mut given[1..], divide) {
-        Laid::Fresh => first(rt, 0)?,
-        Laid::NotLaid(number) => first(rt, number as u64)?,
-    }
-    words(rt, &given[1..])?;
-    Ok(true)
-}
-
-fn found(rt: &impl Print, got: Found) -> io::Result<bool> {
-    match got {
-        Found::Place(place) => {
-            first(rt, 0)?;
-            more(rt, place as u64)?;
-        }
-        Found::NotFound(number) => {
-            first(rt, number as u64)?;
-            more(rt, 0)?;
-        }
-    }
-    Ok(true)
+pub fn lay(rt: &(impl Print + AllocGlobal), mut line: Line<'_>) -> Outcome {
+    let divide = line.compared()?;
+    let mut strip = line.last_words(rt.alloc())?;
+    let number = check_number(strip::lay(&mut strip, divide));
+    print!(rt; "{number}{}", Words(&strip))?;
+    Ok(())
 }
 
 // From the right, or from the left.
-pub fn find(rt: &impl Print, side: usize, given: &[u64]) -> io::Result<bool> {
-    match side {
-        0 => found(rt, find::find_right(given)),
-        1 => found(rt, find::find_left(given)),
-        _ => Ok(false),
-    }
+pub fn find<F>(rt: &(impl Print + AllocGlobal), mut line: Line<'_>, from_a_side: F) -> Outcome
+where
+    F: Fn(&[u64]) -> Result<u32, Refusal>,
+    requires { F.IsAlwaysCallable from_a_side }
+{
+    let (number, place) = match from_a_side(&line.last_words(rt.alloc())?) {
+        Ok(place) => (0, place),
+        Err(refusal) => (refusal.number(), 0),
+    };
+    print!(rt; "{number} {place}")?;
+    Ok(())
 }
 
-fn measured(rt: &impl Print, number: u32, left: u32, orders: u32, right: u32) -> io::Result<bool> {
-    first(rt, number as u64)?;
-    more(rt, left as u64)?;
-    more(rt, orders as u64)?;
-    more(rt, right as u64)?;
-    Ok(true)
+pub fn measure(rt: &(impl Print + AllocGlobal), mut line: Line<'_>) -> Outcome {
+    let (number, left, orders, right) = match strip::measure(&line.last_words(rt.alloc())?) {
+        Ok(shape) => (0, shape.left, shape.orders, shape.right),
+        Err(refusal) => (refusal.number(), 0, 0, 0),
+    };
+    print!(rt; "{number} {left} {orders} {right}")?;
+    Ok(())
 }
 
-pub fn measure(rt: &impl Print, given: &[u64]) -> io::Result<bool> {
-    match strip::measure(given) {
-        Measured::Shape(left, orders, right) => measured(rt, 0, left, orders, right),
-        Measured::NotMeasured(number) => measured(rt, number, 0, 0, 0),
-    }
+pub fn start(rt: &impl Print, mut line: Line<'_>) -> Outcome {
+    let max = line.compared()?;
+    let rec = line.record()?;
+    let operation = line.compared()?;
+    let order = line.order()?;
+    line.end()?;
+    say(rt, party::start(max, rec, operation, order))
 }
 
-pub fn start(rt: &impl Print, given: &[u64]) -> io::Result<bool> {
-    let got = first_record(given);
-    if !got.fits | (given.len() != 9) {
-        return Ok(false);
-    }
-    let order = number_at(given, 8);
-    if 4294967295 < order {
-        return Ok(false);
-    }
-    let r = got.rec;
-    answered(
-        rt,
-        party::start(got.first, r, compared(number_at(given, 7)), order as u32),
-    )?;
-    Ok(true)
+pub fn withdraw(rt: &impl Print, mut line: Line<'_>) -> Outcome {
+    let max = line.compared()?;
+    let rec = line.record()?;
+    line.end()?;
+    say(rt, party::withdraw(max, rec))
 }
 
-pub fn withdraw(rt: &impl Print, given: &[u64]) -> io::Result<bool> {
-    let got = first_record(given);
-    if !got.fits | (given.len() != 7) {
-        return Ok(false);
-    }
-    let r = got.rec;
-    answered(rt, party::withdraw(got.first, r))?;
-    Ok(true)
-}
-
-pub fn step_on(rt: &impl Print, given: &mut [u64]) -> io::Result<bool> {
-    if given.len() < 7 {
-        return Ok(false);
-    }
-    let got = first_record(given);
-    if !got.fits {
-        return Ok(false);
-    }
-    let r = got.rec;
-    answered(rt, step::step(&mut given[7..], r, got.first))?;
-    words(rt, &given[7..])?;
-    Ok(true)
+pub fn step(rt: &(impl Print + AllocGlobal), mut line: Line<'_>) -> Outcome {
+    let hint = line.compared()?;
+    let rec = line.record()?;
+    let mut strip = line.last_words(rt.alloc())?;
+    say(rt, step::step(&mut strip, rec, hint))?;
+    print!(rt; "{}", Words(&strip))?;
+    Ok(())
 }

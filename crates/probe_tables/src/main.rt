@@ -13,63 +13,26 @@
 // up to 163,840 bytes. Any other line is answered `?`.
 #![tactic(auto)]
 
-mod lent;
-mod records;
-mod tables;
+mod calls;
 
-use crate::records::{start_record, step_record, withdraw_record};
-use crate::tables::{start_in, step_in, withdraw_in};
-use console::line::{line_room, past, read_line, which};
-use console::number::{number_room, numbers};
-use console::say::end_line;
+use crate::calls::{start_in, start_record, step_in, step_record, withdraw_in, withdraw_record};
+use console::answer::{Outcome, Unanswered};
+use console::input::answer_lines;
+use console::line::Line;
 use std::io;
 
-// The commands, by their places in the list above.
-fn call(rt: &impl Print, command: usize, given: &mut [u64]) -> io::Result<bool> {
-    match command {
-        0 => start_record(rt, given),
-        1 => withdraw_record(rt, given),
-        2 => step_record(rt, given),
-        3 => start_in(rt, given),
-        4 => withdraw_in(rt, given),
-        5 => step_in(rt, given),
-        _ => Ok(false),
+fn answer(rt: &(impl Print + AllocGlobal), mut line: Line<'_>) -> Outcome {
+    match line.field() {
+        Some(b"start-record") => start_record(rt, line),
+        Some(b"withdraw-record") => withdraw_record(rt, line),
+        Some(b"step-record") => step_record(rt, line),
+        Some(b"start-in") => start_in(rt, line),
+        Some(b"withdraw-in") => withdraw_in(rt, line),
+        Some(b"step-in") => step_in(rt, line),
+        _ => Err(Unanswered::NoCall),
     }
 }
 
-// The place of a line's command in the list above.
-fn command_of(line: &[u8]) -> usize {
-    which(
-        line,
-        0,
-        b"start-record withdraw-record step-record start-in withdraw-in step-in",
-    )
-}
-
-// Answers a line, or says that it does not parse.
-fn answer(rt: &impl Print, line: &[u8]) -> io::Result<bool> {
-    let mut room = number_room();
-    let n = numbers(line, past(line, 0), &mut room);
-    if room.len() < n {
-        return Ok(false);
-    }
-    call(rt, command_of(line), &mut room[0..n])
-}
-
-// One line of the input. Answers whether there was one.
-fn turn(rt: &HostRuntime) -> io::Result<bool> {
-    let mut line = line_room();
-    let n = read_line(&mut rt.stdin(), &mut line)?;
-    let known = answer(rt, &line[0..n])?;
-    end_line(rt, n, known)
-}
-
-// The loop ends at a number that no input reaches, for a proved loop has to end.
 fn main(rt: HostRuntime) -> io::Result<()> {
-    for _ in 0..u64::MAX {
-        if !turn(&rt)? {
-            return Ok(());
-        }
-    }
-    Ok(())
+    answer_lines(&rt, |line| answer(&rt, line))
 }

@@ -1,39 +1,21 @@
-// strip-run: reads a schedule file from standard input and prints its listing, or `refused` and the number. It has room for one byte
-// more than the longest file has, so that a longer one is seen to be too long.
+// strip-run: reads a schedule file from standard input and prints its listing, or `refused` and the number. It reads one byte more than
+// the longest file has, so that a longer one is seen to be too long.
 #![tactic(auto)]
 
-ghost use Rattle.std.specs.Prelude.{◌≡◌, ◌≤◌, length, IfOk};
-
+use schedule::LISTING_BOUND;
 use std::io;
 use std::io::Read;
 
-// Reads until the room is full or the input ends, and answers how many bytes were read. A read that fails is answered as it came, and the
-// room then holds what was read before it.
-fn read_full(input: &mut impl Read, room: &mut [u8]) -> io::Result<usize>
-    ensures within { IfOk result (λ n. n ≤ length room.new) }
-    ensures kept { length room.new ≡ length room.old }
-{
-    let mut n = 0;
-    while n < room.len() {
-        let got = input.read(&mut room[n..])?;
-        if got == 0 {
-            return Ok(n);
-        }
-        n += got;
-    }
-    Ok(n)
-}
-
 fn main(rt: HostRuntime) -> io::Result<()> {
-    let mut file = [0u8; 16395];
-    let mut strip = [0u64; 4096];
-    let mut out = [0u8; 147489];
-    let read = read_full(&mut rt.stdin(), &mut file)?;
-    let got = schedule::list(&file[..read], &mut strip, &mut out);
-    let number = got.number;
-    let length = got.length;
-    if number != 0 {
-        return println!(rt; "refused {number}");
+    let mut file = Vec::new(rt.alloc());
+    rt.stdin().take(16_395).read_to_end(&mut file)?;
+    let mut strip = vec![in rt.alloc(); 0; 4096]?;
+    let mut out = vec![in rt.alloc(); 0; LISTING_BOUND]?;
+    match schedule::list(&file, &mut strip, &mut out) {
+        Ok(length) => {
+            out.truncate(length);
+            rt.write_all(&out)
+        },
+        Err(refusal) => println!(rt; "refused {}", refusal.number()),
     }
-    rt.write_all(&out[..length])
 }

@@ -1,0 +1,82 @@
+// Each command: its numbers are handed to the proved call, and what that says and leaves is written.
+// What ends the program is a write that fails, or memory that runs out.
+use console::answer::Outcome;
+use console::line::Line;
+use console::number::Words;
+use console::records::Records;
+use party::{Answer, carried, number};
+use record::Record;
+use refusal::Refusal;
+
+// The number, the carried order and the records that were lent.
+fn say(rt: &impl Print, answer: Result<Answer, Refusal>, table: &[Record]) -> Outcome {
+    print!(rt; "{} {}{}", number(answer), carried(answer), Records(table))?;
+    Ok(())
+}
+
+pub fn start_record(rt: &impl Print, mut line: Line<'_>) -> Outcome {
+    let max = line.compared()?;
+    let mut rec = line.record()?;
+    let operation = line.compared()?;
+    let order = line.order()?;
+    line.end()?;
+    let answer = table::start_record(max, &mut rec, operation, order);
+    say(rt, answer, &[rec])
+}
+
+pub fn withdraw_record(rt: &impl Print, mut line: Line<'_>) -> Outcome {
+    let max = line.compared()?;
+    let mut rec = line.record()?;
+    line.end()?;
+    let answer = table::withdraw_record(max, &mut rec);
+    say(rt, answer, &[rec])
+}
+
+pub fn step_record(rt: &(impl Print + AllocGlobal), mut line: Line<'_>) -> Outcome {
+    let hint = line.compared()?;
+    let mut rec = line.record()?;
+    let mut strip = line.last_words(rt.alloc())?;
+    let answer = table::step_record(&mut strip, &mut rec, hint);
+    say(rt, answer, &[rec])?;
+    print!(rt; "{}", Words(&strip))?;
+    Ok(())
+}
+
+// Lends the line's table to a call.
+fn on_table<F>(rt: &(impl Print + AllocGlobal), mut line: Line<'_>, call: F) -> Outcome
+where
+    F: FnOnce(&mut [Record]) -> Result<Answer, Refusal>,
+    requires { F.IsAlwaysCallable call }
+{
+    let mut table = line.table(rt.alloc())?;
+    line.end()?;
+    let answer = call(&mut table);
+    say(rt, answer, &table)
+}
+
+pub fn start_in(rt: &(impl Print + AllocGlobal), mut line: Line<'_>) -> Outcome {
+    let max = line.compared()?;
+    let party = line.compared()?;
+    let operation = line.compared()?;
+    let order = line.order()?;
+    on_table(rt, line, |table| {
+        table::start_in(max, table, party, operation, order)
+    })
+}
+
+pub fn withdraw_in(rt: &(impl Print + AllocGlobal), mut line: Line<'_>) -> Outcome {
+    let max = line.compared()?;
+    let party = line.compared()?;
+    on_table(rt, line, |table| table::withdraw_in(max, table, party))
+}
+
+pub fn step_in(rt: &(impl Print + AllocGlobal), mut line: Line<'_>) -> Outcome {
+    let party = line.compared()?;
+    let hint = line.compared()?;
+    let mut table = line.table(rt.alloc())?;
+    let mut strip = line.last_words(rt.alloc())?;
+    let answer = table::step_in(&mut strip, &mut table, party, hint);
+    say(rt, answer, &table)?;
+    print!(rt; "{}", Words(&strip))?;
+    Ok(())
+}
