@@ -7,7 +7,7 @@ use Rattle.stages.specs.Follow.{judge_of, recheck_of}
 use Rattle.step.specs.Step.{step_own, step_refusal, step_of, step_leaves}
 use Rattle.call.specs.Call.{gate, call_of}
 use Rattle.strip.specs.Lay as lay
-use Rattle.strip.specs.Measure.{run_of, measure_of}
+use Rattle.strip.specs.Measure.{measure_of}
 use Rattle.find.specs.Find.{first_from, find_of}
 use Rattle.little.specs.Bytes.{number_at, bytes_of}
 use Rattle.format.specs.Format.{header_refusal}
@@ -23,7 +23,7 @@ use Rattle.conventions.specs.Conventions.{Conventions}
 
 pub the_conventions_hold : Conventions
 unfolding valid_of start_own start_refusal start_of withdraw_own withdraw_refusal withdraw_of access_of judge_of recheck_of step_own step_refusal
-    step_of step_leaves gate call_of lay.lay_refusal lay.laid_of run_of measure_of first_from find_of number_at bytes_of header_refusal
+    step_of step_leaves gate call_of lay.lay_refusal measure_of first_from find_of number_at bytes_of header_refusal
     words_from record_at records_from word_bytes with_records spelled image.image_of image.lay_refusal image.lay_of call_at on_record_of all_below
     read_refusal write_refusal table_bytes file_refusal list_refusal
 the_conventions_hold =

@@ -1,5 +1,6 @@
 -- A schedule file and what is lent to list it: 1, 2, 1, 8. The divide is 0 to MAX, in two bytes; 2,048 entries are the most.
 use Rattle.std.specs.Prelude.{ℕ, List, [], ◌∷◌, ◌++◌, take, set, replicate}
+use Rattle.refusal.specs.Refusal.{check_number}
 use Rattle.schedule.specs.List.{list_refusal}
 use Rattle.conventions.specs.Case.{Case, ◌is◌}
 
@@ -10,13 +11,13 @@ file letter version parties max divide bytes =
 
 -- listed with what must be lent: 4,096 words and 147,489 bytes
 abbrev pub listed : List ℕ → ℕ
-listed bytes = list_refusal bytes 4096 147489
+listed bytes = check_number (list_refusal bytes 4096 147489)
 
 abbrev pub files : List Case
 files =
-    list_refusal (file 83 1 17 0 3 1) 4095 147489 is 1
-    ∷ list_refusal (file 83 1 17 0 3 1) 4097 147489 is 1
-    ∷ list_refusal (file 83 1 17 0 3 1) 4096 147488 is 1
+    check_number (list_refusal (file 83 1 17 0 3 1) 4095 147489) is 1
+    ∷ check_number (list_refusal (file 83 1 17 0 3 1) 4097 147489) is 1
+    ∷ check_number (list_refusal (file 83 1 17 0 3 1) 4096 147488) is 1
     ∷ listed (take 9 (file 83 1 17 0 3 0)) is 1
     ∷ listed (file 83 1 17 0 3 1) is 2
     ∷ listed (file 83 1 17 0 3 16392) is 2
@@ -32,5 +33,5 @@ files =
     ∷ listed (set (file 79 1 3 2 2 0) 9 1) is 8
     ∷ listed (file 79 1 3 2 2 16384) is 0
     ∷ listed (file 79 1 3 2 0 0) is 0
-    ∷ list_refusal (file 79 1 3 2 2 0) 4096 147490 is 0
+    ∷ check_number (list_refusal (file 79 1 3 2 2 0) 4096 147490) is 0
     ∷ []

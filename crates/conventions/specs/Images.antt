@@ -7,6 +7,7 @@ use Rattle.call.specs.Call.{Call}
 use Rattle.call.specs.Call.Call.{start, step, withdraw}
 use Rattle.format.specs.Format.{party_place}
 use Rattle.image.specs.Calls.{image_of, lay_of}
+use Rattle.refusal.specs.Refusal.{check_number}
 use Rattle.pieces.specs.Pieces.{read_refusal}
 use Rattle.whole.specs.Whole.{written_of, write_refusal}
 use Rattle.conventions.specs.Case.{Case, ◌is◌}
@@ -95,32 +96,38 @@ valid = idle ∷ busy ∷ busy ∷ idle ∷ []
 abbrev pub last_soiled : List Record
 last_soiled = idle ∷ busy ∷ busy ∷ soiled ∷ []
 
+abbrev pub read_number : List ℕ → (words parties : ℕ) → ℕ
+read_number bytes words parties = check_number (read_refusal bytes words parties)
+
 -- reading: 1 for what is lent, 1, 2 and 1 of the header, 1 for what does not agree, 4 for any record
 abbrev pub reads : List Case
 reads =
-    read_refusal unmarked 2 4 is 1
-    ∷ read_refusal unmarked 4 17 is 1
-    ∷ read_refusal (take 7 unmarked) 5 3 is 1
-    ∷ read_refusal (take 8 unmarked) 5 3 is 2
-    ∷ read_refusal (take 63 of_version_2) 5 3 is 2
-    ∷ read_refusal (take 167 image) 4 4 is 1
-    ∷ read_refusal image 5 4 is 1
-    ∷ read_refusal image 4 3 is 1
-    ∷ read_refusal image 4 5 is 1
-    ∷ read_refusal image 4 4 is 4
-    ∷ read_refusal (written_of fresh last_soiled) 4 4 is 4
-    ∷ read_refusal (set (written_of fresh valid) 167 1) 4 4 is 4
-    ∷ read_refusal (written_of fresh valid) 4 4 is 0
+    read_number unmarked 2 4 is 1
+    ∷ read_number unmarked 4 17 is 1
+    ∷ read_number (take 7 unmarked) 5 3 is 1
+    ∷ read_number (take 8 unmarked) 5 3 is 2
+    ∷ read_number (take 63 of_version_2) 5 3 is 2
+    ∷ read_number (take 167 image) 4 4 is 1
+    ∷ read_number image 5 4 is 1
+    ∷ read_number image 4 3 is 1
+    ∷ read_number image 4 5 is 1
+    ∷ read_number image 4 4 is 4
+    ∷ read_number (written_of fresh last_soiled) 4 4 is 4
+    ∷ read_number (set (written_of fresh valid) 167 1) 4 4 is 4
+    ∷ read_number (written_of fresh valid) 4 4 is 0
     ∷ []
+
+abbrev pub write_number : (bytes words : ℕ) → List Record → ℕ
+write_number bytes words records = check_number (write_refusal bytes words records)
 
 -- writing: 1 for the lengths, 4 for any record
 abbrev pub writes : List Case
 writes =
-    write_refusal 168 2 table is 1
-    ∷ write_refusal 40 4 [] is 1
-    ∷ write_refusal 167 4 table is 1
-    ∷ write_refusal 169 4 table is 1
-    ∷ write_refusal 168 4 table is 4
-    ∷ write_refusal 168 4 last_soiled is 4
-    ∷ write_refusal 168 4 valid is 0
+    write_number 168 2 table is 1
+    ∷ write_number 40 4 [] is 1
+    ∷ write_number 167 4 table is 1
+    ∷ write_number 169 4 table is 1
+    ∷ write_number 168 4 table is 4
+    ∷ write_number 168 4 last_soiled is 4
+    ∷ write_number 168 4 valid is 0
     ∷ []

@@ -4,7 +4,7 @@ use Rattle.word.specs.Word.{◌·◌}
 use Rattle.record.specs.declared.Record.{Record}
 use Rattle.party.specs.Answer.{number_of, carried_of}
 use Rattle.step.specs.Step.{step_of}
-use Rattle.strip.specs.Lay.{laid_of, laid_number}
+use Rattle.strip.specs.Lay.{lay_refusal, laid_number}
 use Rattle.strip.specs.Measure.{measure_of, measured_number, measured_left, measured_orders, measured_right}
 use Rattle.find.specs.Find.{find_of, found_number, found_place}
 use Rattle.conventions.specs.Case.{Case, ◌is◌}
@@ -13,10 +13,10 @@ use Rattle.conventions.specs.Given.{rec, fresh, two_words}
 -- 1 before 8; the divide is 0 to MAX
 abbrev pub lays : List Case
 lays =
-    laid_number (laid_of (length two_words) 3) is 1
-    ∷ laid_number (laid_of (length fresh) 3) is 8
-    ∷ laid_number (laid_of (length fresh) 2) is 0
-    ∷ laid_number (laid_of (length fresh) 0) is 0
+    laid_number (lay_refusal (length two_words) 3) is 1
+    ∷ laid_number (lay_refusal (length fresh) 3) is 8
+    ∷ laid_number (lay_refusal (length fresh) 2) is 0
+    ∷ laid_number (lay_refusal (length fresh) 0) is 0
     ∷ []
 
 abbrev pub measured : List ℕ → ℕ

@@ -14,7 +14,6 @@ use Rattle.stages.specs.Stages.{access_of}
 use Rattle.stages.specs.Follow.{judge_of, recheck_of}
 use Rattle.step.specs.Step.{step_own, step_refusal, step_of, step_leaves}
 use Rattle.call.specs.Call.{Call, Fitting, gate, call_of}
-use Rattle.strip.specs.Measure as measure
 use Rattle.plain.specs.Plain.{Plain, fresh_plain}
 use Rattle.plain.specs.Play.{play}
 use Rattle.placing.specs.Placing.{at_entry, in_order, Plays}
@@ -81,7 +80,7 @@ empty_at_its_answer_is_not_explained q explained = true≢false (sym (what_is_ex
 pub pushed_at_its_start_replays :
     replays (fresh_plain 2 1) (in_order (λ (f : Finished). f.effect) 5 pushed_at_its_start) (plain_of after_M1) ≡ true
 unfolding valid_of start_own start_refusal start_of access_of judge_of recheck_of step_own step_refusal step_of step_leaves gate call_of
-    measure.run_of play at_entry in_order line_of leaves lines_from finished_from all_same replays
+    play at_entry in_order line_of leaves lines_from finished_from all_same replays
 pushed_at_its_start_replays = refl
 
 -- but an effect lies after the start.

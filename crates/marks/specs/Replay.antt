@@ -1,5 +1,6 @@
 -- Demand 3 as a test that computes: the finished operations of a run, played on the plain strip in the order of their effects.
 use Rattle.std.specs.Prelude.{ℕ, ◌+◌, Bool, true, false, ◌&&◌, List, [], ◌∷◌, length, eqb}
+use Rattle.std.specs.declared.result.Result.TheVariants.{Ok}
 use Rattle.party.specs.Answer.{number_of, carried_of}
 use Rattle.call.specs.Call.{Call}
 use Rattle.plain.specs.Plain.{Plain}
@@ -29,8 +30,8 @@ unfoldable pub replays : Plain → List Finished → Plain → Bool
 replays p [] last = same_plain p last
 replays p (f ∷ fs) last =
     let played = play f.operation f.order p in
-    eqb (number_of played.answer) f.number
-    && eqb (carried_of played.answer) f.carried
+    eqb (number_of (Ok played.answer)) f.number
+    && eqb (carried_of (Ok played.answer)) f.carried
     && replays played.plain fs last
 
 abbrev pub is_explained : (first : List ℕ) (parties : ℕ) → List Call → List Line → (last : List ℕ) → Bool
