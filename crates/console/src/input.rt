@@ -31,7 +31,8 @@ pub fn read_line(alloc: Global, input: &mut impl BufRead) -> io::Result<Option<V
     Ok(Some(line))
 }
 
-// Answers each line. The loop ends at a number that no input reaches, for a proved loop has to end.
+// Answers each line. Public for the text doors, which hand over what answers one, and asks that it may be called on any line. The loop ends
+// at a number that no input reaches, for a proved loop has to end.
 pub fn answer_lines<R, F>(rt: &R, answer: F) -> io::Result<()>
 where
     R: Input + Print + AllocGlobal,
