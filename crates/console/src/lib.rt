@@ -1,5 +1,5 @@
 // The console of the programs that open the proved calls to text: a line of standard input, what its fields say, and what is written.
-// Contracts here ask what is safe, and promise what their callers need to be safe.
+// Contracts say which fields, numbers and bytes are taken from a line; of reading and writing they say what is safe.
 #![tactic(auto)]
 
 pub mod answer;
