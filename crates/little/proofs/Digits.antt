@@ -5,11 +5,11 @@ use mathlib.Core.List.{List, [], ◌∷◌, ◌++◌}
 use lib.ListN.{length, get_or, set, length-set}
 use lib.Seq.{sets, get_or-set_same, set-get_or}
 use lib.Arith.{mod-mul}
-use native.Mathlib.Nat.{add-zero, zero-add, mul_assoc, pow-suc, mod-one, mod-eq_of_lt, one-le-pow, mul_comm}
+use native.Mathlib.Nat.{add-zero, zero-add, mul_assoc, pow-suc, mod-one, mod-eq_of_lt, one-le-pow, mul_comm, div-div-eq-div-mul, div-one}
 use native.Mathlib.Numerals.{add-one}
 use native.Mathlib.Omega.{arith}
 use Rattle.little.specs.Bytes.{AreBytes, number_at, bytes_of}
-use Rattle.little.proofs.Runs.{Agree, below_a_run}
+use Rattle.little.proofs.Runs.{Agree, below_a_run, run_append}
 
 pub length_bytes : (width n : ℕ) → length (bytes_of width n) ≡ width
 unfolding bytes_of
@@ -128,3 +128,25 @@ read_in_two (suc a) b l at =
     let high = number_at b l (at + 1 + a) in
     let turned : 256 ^ a * 256 * high ≡ 256 * (256 ^ a * high) = rw (mul_comm (256 ^ a) 256) (mul_assoc 256 (256 ^ a) high) in
     rw (sum, moved, read_in_two a b l (at + 1), pow-suc 256 a, turned) (omega arith)
+
+-- and laid in two parts
+pub laid_in_two : (a b n : ℕ) → bytes_of (a + b) n ≡ bytes_of a (n % 256 ^ a) ++ bytes_of b (n / 256 ^ a)
+unfolding bytes_of
+laid_in_two zero b n = rw (zero-add b, div-one n) refl
+laid_in_two (suc a) b n =
+    let sum : suc a + b ≡ suc (a + b) = omega arith in
+    let cut = mod-mul n {m = 256 ^ a} {c = 256} (power_above a) (omega arith) in
+    let low : n % (256 ^ a * 256) % 256 ≡ n % 256 = rw cut (omega arith) in
+    let high : n % (256 ^ a * 256) / 256 ≡ n / 256 % 256 ^ a = rw cut (omega arith) in
+    let past : n / (256 ^ a * 256) ≡ n / 256 / 256 ^ a =
+    rw (mul_comm (256 ^ a) 256) (sym (div-div-eq-div-mul n 256 (256 ^ a))) in
+    rw (sum, pow-suc 256 a, low, high, past, laid_in_two a b (n / 256)) refl
+
+pub laid_halves : (half : ℕ) (l : List ℕ) (at n : ℕ)
+    → sets (sets l at (bytes_of half (n % 256 ^ half))) (at + half) (bytes_of half (n / 256 ^ half))
+    ≡ sets l at (bytes_of (half + half) n)
+laid_halves half l at n =
+    let low = bytes_of half (n % 256 ^ half) in
+    let high = bytes_of half (n / 256 ^ half) in
+    let seam : length low ≡ half = length_bytes half (n % 256 ^ half) in
+    rw (laid_in_two half half n, run_append low high l at, seam) refl

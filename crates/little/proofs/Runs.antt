@@ -37,6 +37,15 @@ run_append (u ∷ us) vs l at =
     let moved : at + suc (length us) ≡ suc at + length us = omega arith in
     rw moved (run_append us vs (set l at u) (suc at))
 
+-- a run that is laid element by element: one more
+pub one_more_set : {A : Type 0} (past : A) (new l : List A) (at i : ℕ) → i < length new
+    → set (sets l at (take i new)) (at + i) (get_or new i past) ≡ sets l at (take (suc i) new)
+one_more_set past [] l at i h = absurd (omega arith)
+one_more_set past (n ∷ new) l at zero h = rw (add-zero at) refl
+one_more_set past (n ∷ new) l at (suc i) h =
+    let moved : at + suc i ≡ suc at + i = omega arith in
+    rw moved (one_more_set past new (set l at n) (suc at) i (omega arith))
+
 -- a run over a whole list
 pub whole_run : {A : Type 0} (vs l : List A) → length vs ≡ length l → sets l 0 vs ≡ vs
 whole_run vs l e =

@@ -2,14 +2,14 @@
 use Prim.Native.Nat.{ℕ, zero, suc, ◌+◌, ◌-◌, ◌/◌, ◌%◌, ◌^◌, ◌≤◌, ◌<◌}
 use mathlib.Core.Path.{◌≡◌, refl, sym, ◌∙◌, ap}
 use mathlib.Core.List.{List, ◌∷◌, ◌++◌}
-use lib.ListN.{length, get_or, take, drop, replicate, length-drop, get_or-append}
-use lib.Seq.{sets, length-take-le, get_or-take, get_or-drop, get_or-append-add}
+use lib.ListN.{length, get_or, set, take, drop, replicate, length-drop, get_or-append}
+use lib.Seq.{sets, sets-eq, length-take-le, get_or-take, get_or-drop, get_or-append-add}
 use native.Mathlib.Nat.{add-zero, zero-add, mul-zero}
+use native.Mathlib.Numerals.{add-one}
 use native.Mathlib.Omega.{arith}
-use borrow.Rule.Slice.PartMut.{put_mid}
 use Rattle.std.specs.Int.{w64, to_le_bytes, from_le_bytes}
 use Rattle.little.specs.Bytes.{number_at, bytes_of}
-use Rattle.little.proofs.Runs.{part_laid}
+use Rattle.little.proofs.Runs.{one_more_set}
 use Rattle.little.proofs.Digits.{length_bytes, zeros_spell_0, read_in_two}
 
 no_digit : (n i : ℕ) → get_or {A = ℕ} (replicate n 0) i 0 ≡ 0
@@ -59,6 +59,25 @@ read_wide width l got at narrow inside e =
     eight_read whole ∙ ap (λ (w : ℕ). number_at w whole 0) (sym all) ∙ read_in_two width (8 - width) whole 0
     ∙ rw (low, high, mul-zero (256 ^ width), add-zero (number_at width l at)) refl
 
+-- what `number` copies, byte by byte, before zeros
+abbrev pub copied : (l : List ℕ) (at i : ℕ) → List ℕ
+copied l at i = sets (replicate 8 0) 0 (take i (drop at l))
+
+pub one_more_copied : (l : List ℕ) (at i : ℕ) → at + i < length l → set (copied l at i) i (get_or l (at + i) 0) ≡ copied l at (i + 1)
+one_more_copied l at i h =
+    rw (sym (get_or-drop at l i 0), add-one i)
+    (rw zero-add at (one_more_set 0 (drop at l) (replicate 8 0) 0 i (omega (arith, length-drop at l))))
+
+pub read_copied : (width : ℕ) (l : List ℕ) (at : ℕ) → width ≤ 8 → at + width ≤ length l
+    → from_le_bytes w64 (copied l at width) ≡ number_at width l at
+read_copied width l at narrow inside =
+    let got = take width (drop at l) in
+    let long : length got ≡ width = length-take-le width (drop at l) (omega (arith, length-drop at l)) in
+    let as_wide : at + width - at ≡ width = omega arith in
+    let before_zeros : copied l at width ≡ got ++ drop width (replicate 8 0) =
+    sets-eq got (replicate 8 0) 0 (omega arith) ∙ ap (λ (n : ℕ). got ++ drop n (replicate 8 0)) (zero-add (length got) ∙ long) in
+    ap (from_le_bytes w64) before_zeros ∙ read_wide width l got at narrow inside (rw as_wide refl)
+
 -- the first bytes of a longer number
 first_bytes : (width rest n : ℕ) → take width (bytes_of (width + rest) n) ≡ bytes_of width n
 unfolding bytes_of
@@ -78,12 +97,18 @@ eight_laid n =
     let seven : n / 72057594037927936 ≡ n / 256 / 256 / 256 / 256 / 256 / 256 / 256 = omega arith in
     rw (two, three, four, five, six, seven) refl
 
--- what `put` lays: the first of the 8 bytes
-pub laid_narrow : (width : ℕ) (l new : List ℕ) (at n : ℕ) → width ≤ 8 → at + width ≤ length l → new ≡ take width (to_le_bytes w64 n)
-    → put_mid at (at + width - at) l new ≡ sets l at (bytes_of width n)
-laid_narrow width l new at n narrow inside e =
+-- what `put` lays, byte by byte
+abbrev pub put_to : (l : List ℕ) (at n i : ℕ) → List ℕ
+put_to l at n i = sets l at (take i (to_le_bytes w64 n))
+
+pub one_more_put : (l : List ℕ) (at n i : ℕ) → i < 8 → set (put_to l at n i) (at + i) (get_or (to_le_bytes w64 n) i 0) ≡ put_to l at n (i + 1)
+one_more_put l at n i h =
+    let long : length (to_le_bytes w64 n) ≡ 8 = ap length (eight_laid n) ∙ length_bytes 8 n in
+    rw (add-one i) (one_more_set 0 (to_le_bytes w64 n) l at i (omega arith))
+
+pub all_put : (width : ℕ) (l : List ℕ) (at n : ℕ) → width ≤ 8 → put_to l at n width ≡ sets l at (bytes_of width n)
+all_put width l at n narrow =
     let all : width + (8 - width) ≡ 8 = omega arith in
-    let laid : new ≡ bytes_of width n =
-    e ∙ ap (take width) (eight_laid n) ∙ rw all at (first_bytes width (8 - width) n) in
-    let long : length new ≡ at + width - at = ap length laid ∙ omega (arith, length_bytes width n) in
-    part_laid at (at + width - at) l new long (omega arith) ∙ ap (sets l at) laid
+    let laid : take width (to_le_bytes w64 n) ≡ bytes_of width n =
+    ap (take width) (eight_laid n) ∙ rw all at (first_bytes width (8 - width) n) in
+    ap (sets l at) laid

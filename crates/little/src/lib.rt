@@ -13,7 +13,9 @@ pub fn number<const W: usize>(bytes: &[u8], at: usize) -> u64
     ensures fits { result < 256 ^ W }
 {
     let mut wide = [0; 8];
-    wide[..W].copy_from_slice(&bytes[at..at + W]);
+    for i in 0..W {
+        wide[i] = bytes[at + i];
+    }
     u64::from_le_bytes(wide)
 }
 
@@ -22,5 +24,8 @@ pub fn put<const W: usize>(bytes: &mut [u8], at: usize, n: u64)
     requires { (at + W ≤ length bytes.old) × (W ≤ 8) }
     ensures { bytes.new ≡ sets bytes.old at (bytes_of W n) }
 {
-    bytes[at..at + W].copy_from_slice(&n.to_le_bytes()[..W]);
+    let wide = n.to_le_bytes();
+    for i in 0..W {
+        bytes[at + i] = wide[i];
+    }
 }

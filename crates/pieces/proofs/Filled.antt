@@ -9,21 +9,13 @@ use native.Mathlib.Numerals.{add-one}
 use native.Mathlib.Omega.{arith}
 use Rattle.record.specs.Record.{idle}
 use Rattle.record.specs.declared.Record.{Record}
-use Rattle.little.proofs.Runs.{whole_run}
+use Rattle.little.proofs.Runs.{one_more_set, whole_run}
 use Rattle.format.specs.Spelling.{words_from, records_from}
 use Rattle.format.proofs.Parts.{Part, parts_from, length_parts, part_at}
 use Rattle.format.proofs.Words.{word_part, words_are_parts}
 use Rattle.format.proofs.Records.{record_part, records_are_parts}
 use Rattle.header.specs.Header.{version_at}
 use Rattle.format.specs.Format.{words_base}
-
-one_more_set : {A : Type 0} (past : A) (new l : List A) (at i : ℕ) → i < length new
-    → set (sets l at (take i new)) (at + i) (get_or new i past) ≡ sets l at (take (suc i) new)
-one_more_set past [] l at i h = absurd (omega arith)
-one_more_set past (n ∷ new) l at zero h = rw (add-zero at) refl
-one_more_set past (n ∷ new) l at (suc i) h =
-    let moved : at + suc i ≡ suc at + i = omega arith in
-    rw moved (one_more_set past new (set l at n) (suc at) i (omega arith))
 
 module _ {A : Type 0} (part : Part A) (past : A) (image : List ℕ) (at : ℕ) (old : List A) where
   abbrev new : List A

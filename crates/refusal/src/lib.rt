@@ -4,12 +4,11 @@
 ghost use Rattle.std.specs.Prelude.{◌≡◌};
 ghost use Rattle.refusal.specs.Refusal.{refusal_number};
 
-// In the order in which a call looks for them; WrongSize is looked for again after WrongMark.
+// In the order of their numbers, which the compiler then needs no table for.
 #[derive(Clone, Copy, Debug, PartialEq, Eq)]
 pub enum Refusal {
     WrongSize = 1,
     WrongMark = 2,
-    WrongOperation = 11,
     WrongParty = 3,
     NotValid = 4,
     Busy = 5,
@@ -18,6 +17,7 @@ pub enum Refusal {
     Outside = 8,
     CounterAtEnd = 9,
     NoPlace = 10,
+    WrongOperation = 11,
     NotShaped = 12,
 }
 
