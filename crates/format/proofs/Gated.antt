@@ -62,6 +62,10 @@ module _ (image : List ℕ) (unknown : Bool) (party : ℕ) where
   unfolding named_of
   named_found got read = given_behind (named_refusal image unknown party) read
 
+  pub named_passes : named_refusal image unknown party ≡ passes → named_of image unknown party ≡ Ok (found_named image party)
+  unfolding named_of
+  named_passes none = rw none refl
+
   pub named_refuses : (refusal : Refusal) → named_of image unknown party ≡ Err refusal → named_refusal image unknown party ≡ Err refusal
   unfolding named_of
   named_refuses refusal read = refused_by (named_refusal image unknown party) (found_named image party) read

@@ -1,6 +1,9 @@
 -- Every refusal's number is one of document 01's refusals, so that every check ends at 0 or at one of them.
-use Rattle.std.specs.Prelude.{ℕ, ◌≡◌, true}
-use Rattle.std.proofs.Common.{refl}
+use Rattle.std.specs.Prelude.{ℕ, ◌≡◌, ◌≤◌, true, leb}
+use Rattle.std.proofs.Common.{refl, sym, ◌∙◌, ap, arith}
+use mathlib.Core.Bool.{true≢false}
+use borrow.Author.Tests.{leb-true}
+use Rattle.logic.proofs.Bools.{both}
 use Rattle.refusal.specs.declared.Refusal.{Refusal}
 use Rattle.refusal.specs.declared.Refusal.TheVariants.{WrongSize, WrongMark, WrongOperation, WrongParty, NotValid, Busy, Idle, WrongOrder, Outside, CounterAtEnd, NoPlace, NotShaped}
 use Rattle.std.specs.declared.result.Result.TheVariants.{Ok, Err}
@@ -26,6 +29,16 @@ every_refusal_is_one NotShaped = refl
 pub data Checked (number : ℕ) : Type 0 where
   none : number ≡ 0 → Checked number
   some : is_refusal number ≡ true → Checked number
+
+pub refusal_is_not_0 : (number : ℕ) → is_refusal number ≡ true → number ≡ 0 → ⊥
+refusal_is_not_0 number refusal e = true≢false (sym refusal ∙ ap is_refusal e)
+
+pub refusal_is_small : (number : ℕ) → is_refusal number ≡ true → number ≤ 12
+refusal_is_small number refusal = leb-true number 12 (both (leb 1 number) (leb number 12) refusal).1
+
+pub checked_is_small : {number : ℕ} → Checked number → number ≤ 12
+checked_is_small (none e) = omega arith
+checked_is_small {number} (some refusal) = refusal_is_small number refusal
 
 pub every_check_ends : (check : Check) → Checked (check_number check)
 every_check_ends (Ok passed) = none refl
