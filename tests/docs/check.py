@@ -5,8 +5,8 @@ from pathlib import Path
 
 LINK = re.compile(r"\[[^\]]*\]\(([^)\s]+)\)")
 NAME = re.compile(r"`([A-Za-z][\w'-]*)`")
-# docs/PORT.md and docs/DESIGN-PASS.md tell what names and texts were before, and are held against nothing.
-PAGES = [Path("README.md"), Path("twin/README.md"), *(page for page in sorted(Path("docs").glob("*.md")) if page.name not in ("PORT.md", "DESIGN-PASS.md"))]
+# docs/PORT.md, docs/DESIGN-PASS.md and docs/LOOK-BACK.md tell what names and texts were before, and are held against nothing.
+PAGES = [Path("README.md"), Path("twin/README.md"), *(page for page in sorted(Path("docs").glob("*.md")) if page.name not in ("PORT.md", "DESIGN-PASS.md", "LOOK-BACK.md"))]
 CRATES = {}  # name: the crates of ours that it uses
 for line in Path("crates.txt").read_text().splitlines():
     if line and not line.startswith("#"):
