@@ -17,12 +17,13 @@ pub struct Text<'a> {
 
 // Not by write!, which says what was written only where it answers Ok, and never that it does: these cannot fail.
 impl Text<'_> {
-    // One byte. Public for the listing, which knows that there is room.
+    // One byte. Public for the listing, which knows that there is room. It is stored here, since a call to copy one byte takes longer.
     pub fn put_byte(&mut self, byte: u8)
         requires { Room (byte ∷ []) self.old }
         ensures { Puts (byte ∷ []) self.old self.new }
     {
-        self.put_text(&[byte]);
+        self.out[self.at] = byte;
+        self.at += 1;
     }
 
     // Bytes as they stand. Public for the listing, which knows that there is room.
@@ -37,12 +38,15 @@ impl Text<'_> {
         *at = end;
     }
 
-    // A number in decimal. Public for the listing, which knows that there is room.
-    #[tactic(auto, using(crate::proofs::Digits::decimal_is_printed))]
+    // A number in decimal. Public for the listing, which knows that there is room. Most numbers there are one digit, which needs no buffer.
+    #[tactic(auto, using(crate::proofs::Digits::decimal_is_printed, std::proofs::lemmas::Fmt::decimal_digit))]
     pub fn put_decimal(&mut self, number: u32)
         requires { Room (decimal number) self.old }
         ensures { Puts (decimal number) self.old self.new }
     {
+        if number < 10 {
+            return self.put_byte(b'0' + number as u8);
+        }
         let mut digits = Buffer::new();
         self.put_text(digits.format(number).as_bytes());
     }
