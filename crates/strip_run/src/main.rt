@@ -9,13 +9,13 @@ use std::io::Read;
 // In fixed memory: the program has no heap, and so can't run out of it.
 fn main(rt: HostRuntime) -> io::Result<()> {
     let mut file = [0; 16_395];
+    let mut strip = [0; 4096];
+    let mut out = [0; LISTING_BOUND];
     // copy leaves in room what it did not fill; that this is no more than before is not promised, so no plain difference is taken
     let mut room = &mut file[..];
     io::copy(&mut rt.stdin().take(room.len() as u64), &mut room)?;
     let left = room.len();
     let read = file.len().saturating_sub(left);
-    let mut strip = [0; 4096];
-    let mut out = [0; LISTING_BOUND];
     match schedule::list(&file[..read], &mut strip, &mut out) {
         Ok(length) => rt.write_all(&out[..length]),
         Err(refusal) => println!(rt; "refused {}", refusal.number()),
