@@ -1,3 +1,4 @@
 pub mod Fields
 pub mod HeldTable
+pub mod Next
 pub mod Reading

@@ -1,6 +1,7 @@
 -- The number that a field spells: decimal digits alone, below 2^64.
-use Rattle.std.specs.Prelude.{◌≡◌, ◌≢◌, ◌<◌, IsSome, IfSome, ℕ, ◌+◌, ◌-◌, ◌*◌, ◌^◌, ◌&&◌, cond, leb, ltb, Bool, List, [], ◌∷◌, Option, Some, None}
-use Rattle.console.specs.Fields.{field_of, rest_of}
+use Rattle.std.specs.Prelude.{◌≡◌, ◌≢◌, ◌<◌, ◌⊎◌, IsSome, IfSome, ℕ, zero, suc, ◌+◌, ◌-◌, ◌*◌, ◌^◌, ◌&&◌, cond, leb, ltb, Bool, true, List, [], ◌∷◌, Option, Some, None}
+use Rattle.std.specs.List.{list_all}
+use Rattle.console.specs.Fields.{is_blank, field_of, rest_of}
 
 abbrev pub is_digit : ℕ → Bool
 is_digit b = leb 48 b && leb b 57
@@ -26,6 +27,16 @@ IsNumberNext most text = (field_of text ≢ []) × (0 < most) × IsSome (number_
 -- that a number below a bound is
 abbrev pub IsBelowNext : ℕ → ℕ → List ℕ → Type 0
 IsBelowNext bound most text = IsNumberNext most text × IfSome (number_of (field_of text)) (λ n. n < bound)
+
+-- that numbers below these bounds are, one after another
+abbrev pub AreBelowNext : List ℕ → ℕ → List ℕ → Type 0
+AreBelowNext [] most text = Unit {0}
+AreBelowNext (bound ∷ bounds) most text = IsBelowNext bound most text × AreBelowNext bounds (most - 1) (rest_of text)
+
+-- that a text is numbers to its end, no more than so many
+abbrev pub AreNumbers : ℕ → List ℕ → Type 0
+AreNumbers zero text = list_all is_blank text ≡ true
+AreNumbers (suc most) text = (list_all is_blank text ≡ true) ⊎ (IsNumberNext (suc most) text × AreNumbers most (rest_of text))
 
 -- that a text begins with these numbers, and what is left after them
 abbrev pub Reads : List ℕ → List ℕ → List ℕ → Type 0

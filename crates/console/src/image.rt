@@ -1,31 +1,36 @@
 // The bytes of an image as text: two digits to base 16 for each, `-` for none.
-ghost use Rattle.std.specs.Prelude.{◌≡◌, ◌≤◌, IfOk, vec_len};
+ghost use Rattle.std.specs.Prelude.{◌≡◌, ◌≤◌, ◌↔◌, min, length, take, IsOk, IfOk, IfErr};
 ghost use Rattle.console.specs.Fields.{field_of, rest_of};
-ghost use Rattle.console.specs.Image.{Spells};
+ghost use Rattle.console.specs.Image.{Spells, AreBytesNext};
 
 use crate::answer::Unanswered;
 use crate::line::Line;
-use std::alloc::Global;
 use std::fmt;
 
 // More bytes than the largest image has.
-const MOST_BYTES: usize = 33_792;
+pub const MOST_BYTES: usize = 33_792;
 
 impl Line<'_> {
-    pub fn bytes(&mut self, alloc: Global) -> Result<Vec<u8>, Unanswered>
-        ensures bound { IfOk result (λ bytes. vec_len bytes ≤ 33792) }
-        ensures value { IfOk result (λ bytes. Spells (field_of self.old.text.now) bytes.items) }
+    // The bytes of an image, into a room: how many.
+    pub fn bytes(&mut self, room: &mut [u8]) -> Result<usize, Unanswered>
+        ensures bound { IfOk result (λ count. count ≤ 33792) }
+        ensures within { IfOk result (λ count. count ≤ length room.new) }
+        ensures value { IfOk result (λ count. Spells (field_of self.old.text.now) (take count room.new)) }
+        ensures given { IsOk result ↔ AreBytesNext (min 33792 (length room.old)) self.old.text.now }
         ensures rest { self.new.text.now ≡ rest_of self.old.text.now }
+        ensures left { self.new.numbers ≡ self.old.numbers }
+        ensures refused { IfErr result (λ e. e ≡ Unanswered.NoCall) }
     {
         let digits = self.field().ok_or(Unanswered::NoCall)?;
         if digits == b"-".as_slice() {
-            return Ok(Vec::new(alloc));
+            return Ok(0);
         }
-        let bytes = hex::decode(alloc, digits)?;
-        if MOST_BYTES < bytes.len() {
+        let count = digits.len() / 2;
+        if MOST_BYTES.min(room.len()) < count {
             return Err(Unanswered::NoCall);
         }
-        Ok(bytes)
+        hex::decode_to_slice(digits, &mut room[..count]).map_err(|_| Unanswered::NoCall)?;
+        Ok(count)
     }
 }
 

@@ -1,50 +1,70 @@
 // The lines of standard input, each answered by one line.
-ghost use Rattle.std.specs.Prelude.{◌≤◌, IfOk, IfSome, vec_len};
+ghost use Rattle.std.specs.Prelude.{◌≡◌, ◌≤◌, length, IfOk, IfSome};
 
+use crate::ahead::Ahead;
 use crate::answer::{Outcome, Unanswered};
 use crate::line::Line;
-use std::alloc::Global;
 use std::io;
-use std::io::{BufRead, BufReader, Read};
+use std::io::Read;
 
 // The longest line writes an image: 4,097 words and 17 records, each number a blank and up to 20 digits, and 33,352 bytes, which is more
 // than the largest image has, so that one that is too long can be shown.
 const LONGEST: usize = 163_840;
 
-// A line with its newline, none at the end of the input. An empty one stands for a line that is too long, which is read to its end, or to
-// 4 GiB.
-pub fn read_line(alloc: Global, input: &mut impl BufRead) -> io::Result<Option<Vec<u8>>>
-    ensures { IfOk result (λ line. IfSome line (λ bytes. vec_len bytes ≤ 163840)) }
+// No more bytes are read for one line.
+const MOST_READ: usize = 4_294_967_295;
+
+fn keep(room: &mut [u8], at: usize, byte: u8) {
+    if let Some(place) = room.get_mut(at) {
+        *place = byte;
+    }
+}
+
+// How many bytes a line has with its newline; none at the end of the input. What there is no room for is read and counted, and not kept.
+fn read_all(input: &mut impl Read, room: &mut [u8]) -> io::Result<usize> {
+    let mut count: usize = 0;
+    for byte in input.bytes().take(MOST_READ) {
+        let byte = byte?;
+        keep(room, count, byte);
+        count = count.saturating_add(1);
+        if byte == b'\n' {
+            break;
+        }
+    }
+    Ok(count)
+}
+
+// A line with its newline, into a room: how many bytes, none at the end of the input. Where there is no room for a line, an empty one stands
+// for it. A read that fails is answered as it came.
+pub fn read_line(input: &mut impl Read, room: &mut [u8]) -> io::Result<Option<usize>>
+    ensures within { IfOk result (λ line. IfSome line (λ count. count ≤ length room.new)) }
+    ensures kept { length room.new ≡ length room.old }
 {
-    let mut input = input.take(4_294_967_295);
-    let mut line = Vec::new(alloc);
-    input.by_ref().take(163_841).read_until(b'\n', &mut line)?;
-    if line.is_empty() {
+    let count = read_all(input, room)?;
+    if count == 0 {
         return Ok(None);
     }
-    if LONGEST < line.len() {
-        if line.last() != Some(&b'\n') {
-            input.skip_until(b'\n')?;
-        }
-        line.clear();
+    if room.len() < count {
+        return Ok(Some(0));
     }
-    Ok(Some(line))
+    Ok(Some(count))
 }
 
 // Answers each line. Public for the text doors, which hand over what answers one, and asks that it may be called on any line. The loop ends
 // at a number that no input reaches, for a proved loop has to end.
 pub fn answer_lines<R, F>(rt: &R, answer: F) -> io::Result<()>
 where
-    R: Input + Print + AllocGlobal,
+    R: Input + Print,
     F: Fn(Line<'_>) -> Outcome,
     requires { F.IsAlwaysCallable answer }
 {
-    let mut input = BufReader::new(rt.alloc(), rt.reader())?;
+    let mut input = Ahead::new(rt.reader());
+    let mut room = [0; LONGEST];
     for _ in 0..u64::MAX {
-        let Some(line) = read_line(rt.alloc(), &mut input)? else {
+        let Some(count) = read_line(&mut input, &mut room)? else {
             return Ok(());
         };
-        match answer(Line::new(&line)) {
+        match answer(Line::new(&room[..count])) {
             Ok(()) => rt.write_all(b"\n")?,
             Err(Unanswered::NoCall) => rt.write_all(b"?\n")?,
             Err(Unanswered::Failed(e)) => return Err(e),

@@ -2,6 +2,7 @@
 // Contracts say which fields, numbers and bytes are taken from a line; of reading and writing they say what is safe.
 #![tactic(auto)]
 
+mod ahead;
 pub mod answer;
 pub mod image;
 pub mod input;

@@ -4,7 +4,7 @@ ghost use Rattle.std.specs.List.{list_all};
 ghost use Rattle.console.specs.Fields.{is_blank, is_ink, blanks, field_length, field_of, rest_of};
 
 // No line has more numbers.
-const MOST_NUMBERS: usize = 4224;
+pub const MOST_NUMBERS: usize = 4224;
 
 // What is left of a line, and how many numbers may yet be taken.
 #[derive(Drop)]

@@ -1,14 +1,13 @@
 // The numbers of a line, and those that are written.
-ghost use Rattle.std.specs.Prelude.{◌≡◌, ◌+◌, ◌^◌, ◌≤◌, ◌↔◌, min, true, IsSome, IfSome, OnSome, IsOk, IfOk, OnOk, OnErr, vec_len};
+ghost use Rattle.std.specs.Prelude.{◌≡◌, ◌+◌, ◌^◌, ◌≤◌, ◌↔◌, min, true, length, take, replicate, IsSome, IfSome, OnSome, IsOk, IfOk, OnOk, IfErr, OnErr};
 ghost use Rattle.std.specs.List.{list_all};
 ghost use Rattle.refusal.specs.Refusal.{check_number};
 ghost use Rattle.console.specs.Fields.{is_blank, field_of, rest_of};
-ghost use Rattle.console.specs.Numbers.{longer, number_of, IsNumberNext, IsBelowNext, Reads};
+ghost use Rattle.console.specs.Numbers.{longer, number_of, IsNumberNext, IsBelowNext, AreBelowNext, AreNumbers, Reads};
 
 use crate::answer::{Outcome, Unanswered};
 use crate::line::Line;
 use refusal::Refusal;
-use std::alloc::Global;
 use std::fmt;
 
 // A number with one more digit, below 2^64.
@@ -36,6 +35,7 @@ where
     T::Error: Drop,
     ensures ok { IfOk result (λ fitting. T.try_from_gives number (Ok fitting)) }
     ensures err { OnErr result ((e : T.Error) × T.try_from_gives number (Err e)) }
+    ensures refused { IfErr result (λ e. e ≡ Unanswered.NoCall) }
 {
     T::try_from(number).map_err(|_| Unanswered::NoCall)
 }
@@ -61,6 +61,7 @@ impl Line<'_> {
         ensures given { IsOk result ↔ IsNumberNext self.old.numbers self.old.text.now }
         ensures rest { self.new.text.now ≡ rest_of self.old.text.now }
         ensures left { OnOk result (self.new.numbers + 1 ≡ self.old.numbers) }
+        ensures refused { IfErr result (λ e. e ≡ Unanswered.NoCall) }
     {
         self.try_number().ok_or(Unanswered::NoCall)
     }
@@ -71,6 +72,7 @@ impl Line<'_> {
         ensures given { IsOk result ↔ IsBelowNext (2 ^ 32) self.old.numbers self.old.text.now }
         ensures rest { self.new.text.now ≡ rest_of self.old.text.now }
         ensures left { OnOk result (self.new.numbers + 1 ≡ self.old.numbers) }
+        ensures refused { IfErr result (λ e. e ≡ Unanswered.NoCall) }
     {
         narrow(self.number()?)
     }
@@ -81,6 +83,7 @@ impl Line<'_> {
         ensures given { IsOk result ↔ IsNumberNext self.old.numbers self.old.text.now }
         ensures rest { self.new.text.now ≡ rest_of self.old.text.now }
         ensures left { OnOk result (self.new.numbers + 1 ≡ self.old.numbers) }
+        ensures refused { IfErr result (λ e. e ≡ Unanswered.NoCall) }
     {
         Ok(u32::try_from(self.number()?).unwrap_or(u32::MAX))
     }
@@ -92,6 +95,7 @@ impl Line<'_> {
         ensures given { IsOk result ↔ IsBelowNext (most + 1) self.old.numbers self.old.text.now }
         ensures rest { self.new.text.now ≡ rest_of self.old.text.now }
         ensures left { OnOk result (self.new.numbers + 1 ≡ self.old.numbers) }
+        ensures refused { IfErr result (λ e. e ≡ Unanswered.NoCall) }
     {
         let count = usize::try_from(self.number()?).unwrap_or(usize::MAX);
         if most < count {
@@ -100,40 +104,43 @@ impl Line<'_> {
         Ok(count)
     }
 
-    // So many words of a strip.
-    #[tactic(auto, using(crate::proofs::Reading::one_more))]
-    pub fn words(&mut self, alloc: Global, count: usize) -> Result<Vec<u64>, Unanswered>
-        ensures count { IfOk result (λ words. vec_len words ≡ count) }
-        ensures value { IfOk result (λ words. Reads self.old.text.now words.items self.new.text.now) }
+    // Words of a strip, as many as there is room for.
+    pub fn words(&mut self, room: &mut [u64]) -> Result<(), Unanswered>
+        ensures given { IsOk result ↔ AreBelowNext (replicate (length room.old) (2 ^ 64)) self.old.numbers self.old.text.now }
+        ensures value { OnOk result (Reads self.old.text.now room.new self.new.text.now) }
+        ensures left { OnOk result (self.new.numbers + length room.old ≡ self.old.numbers) }
+        ensures refused { IfErr result (λ e. e ≡ Unanswered.NoCall) }
     {
-        let mut words = Vec::new(alloc);
-        for _ in 0..count {
-            words.push(self.number()?)?;
+        for word in room.iter_mut() {
+            *word = self.number()?;
         }
-        Ok(words)
+        Ok(())
     }
 
-    // The words of a strip, to the end of the line.
-    #[tactic(auto, using(crate::proofs::Reading::one_more))]
-    pub fn last_words(&mut self, alloc: Global) -> Result<Vec<u64>, Unanswered>
+    // The words of a strip, to the end of the line: how many.
+    pub fn last_words(&mut self, room: &mut [u64]) -> Result<usize, Unanswered>
         ensures all { OnOk result (list_all is_blank self.new.text.now ≡ true) }
-        ensures bound { IfOk result (λ words. vec_len words ≤ self.old.numbers) }
-        ensures value { IfOk result (λ words. Reads self.old.text.now words.items self.new.text.now) }
+        ensures bound { IfOk result (λ count. count ≤ self.old.numbers) }
+        ensures within { IfOk result (λ count. count ≤ length room.new) }
+        ensures value { IfOk result (λ count. Reads self.old.text.now (take count room.new) self.new.text.now) }
+        ensures given { IsOk result ↔ AreNumbers (min self.old.numbers (length room.old)) self.old.text.now }
+        ensures left { IfOk result (λ count. self.new.numbers + count ≡ self.old.numbers) }
+        ensures refused { IfErr result (λ e. e ≡ Unanswered.NoCall) }
     {
-        let mut words = Vec::new(alloc);
-        for _ in 0..self.numbers {
+        for (taken, word) in room.iter_mut().enumerate() {
             if self.is_done() {
-                break;
+                return Ok(taken);
             }
-            words.push(self.number()?)?;
+            *word = self.number()?;
         }
         self.end()?;
-        Ok(words)
+        Ok(room.len())
     }
 
     // That no field is left.
     pub fn end(&self) -> Outcome
-        ensures { IsOk result ↔ (list_all is_blank self.now.text.now ≡ true) }
+        ensures given { IsOk result ↔ (list_all is_blank self.now.text.now ≡ true) }
+        ensures refused { IfErr result (λ e. e ≡ Unanswered.NoCall) }
     {
         self.is_done().then_some(()).ok_or(Unanswered::NoCall)
     }

@@ -1,7 +1,7 @@
 // Each command: its numbers are handed to the proved call, and what that gives is written.
-// What ends the program is a write that fails, or memory that runs out.
+// What ends the program is a write that fails.
 use console::answer::Outcome;
-use console::line::Line;
+use console::line::{Line, MOST_NUMBERS};
 use console::number::{Words, check_number};
 use console::records::Records;
 use party::{Answered, carried, number};
@@ -14,21 +14,25 @@ fn say(rt: &impl Print, got: Answered) -> Outcome {
     Ok(())
 }
 
-pub fn lay(rt: &(impl Print + AllocGlobal), mut line: Line<'_>) -> Outcome {
+pub fn lay(rt: &impl Print, mut line: Line<'_>) -> Outcome {
     let divide = line.compared()?;
-    let mut strip = line.last_words(rt.alloc())?;
-    let number = check_number(strip::lay(&mut strip, divide));
-    print!(rt; "{number}{}", Words(&strip))?;
+    let mut room = [0; MOST_NUMBERS];
+    let count = line.last_words(&mut room)?;
+    let strip = &mut room[..count];
+    let number = check_number(strip::lay(strip, divide));
+    print!(rt; "{number}{}", Words(strip))?;
     Ok(())
 }
 
 // From the right, or from the left.
-pub fn find<F>(rt: &(impl Print + AllocGlobal), mut line: Line<'_>, from_a_side: F) -> Outcome
+pub fn find<F>(rt: &impl Print, mut line: Line<'_>, from_a_side: F) -> Outcome
 where
     F: Fn(&[u64]) -> Result<u32, Refusal>,
     requires { F.IsAlwaysCallable from_a_side }
 {
-    let (number, place) = match from_a_side(&line.last_words(rt.alloc())?) {
+    let mut room = [0; MOST_NUMBERS];
+    let count = line.last_words(&mut room)?;
+    let (number, place) = match from_a_side(&room[..count]) {
         Ok(place) => (0, place),
         Err(refusal) => (refusal.number(), 0),
     };
@@ -36,8 +40,10 @@ where
     Ok(())
 }
 
-pub fn measure(rt: &(impl Print + AllocGlobal), mut line: Line<'_>) -> Outcome {
-    let (number, left, orders, right) = match strip::measure(&line.last_words(rt.alloc())?) {
+pub fn measure(rt: &impl Print, mut line: Line<'_>) -> Outcome {
+    let mut room = [0; MOST_NUMBERS];
+    let count = line.last_words(&mut room)?;
+    let (number, left, orders, right) = match strip::measure(&room[..count]) {
         Ok(shape) => (0, shape.left, shape.orders, shape.right),
         Err(refusal) => (refusal.number(), 0, 0, 0),
     };
@@ -61,11 +67,13 @@ pub fn withdraw(rt: &impl Print, mut line: Line<'_>) -> Outcome {
     say(rt, party::withdraw(max, rec))
 }
 
-pub fn step(rt: &(impl Print + AllocGlobal), mut line: Line<'_>) -> Outcome {
+pub fn step(rt: &impl Print, mut line: Line<'_>) -> Outcome {
     let hint = line.compared()?;
     let rec = line.record()?;
-    let mut strip = line.last_words(rt.alloc())?;
-    say(rt, step::step(&mut strip, rec, hint))?;
-    print!(rt; "{}", Words(&strip))?;
+    let mut room = [0; MOST_NUMBERS];
+    let count = line.last_words(&mut room)?;
+    let strip = &mut room[..count];
+    say(rt, step::step(strip, rec, hint))?;
+    print!(rt; "{}", Words(strip))?;
     Ok(())
 }

@@ -21,7 +21,7 @@ use console::input::answer_lines;
 use console::line::Line;
 use std::io;
 
-fn find_from_a_side(rt: &(impl Print + AllocGlobal), mut line: Line<'_>) -> Outcome {
+fn find_from_a_side(rt: &impl Print, mut line: Line<'_>) -> Outcome {
     match line.field() {
         Some(b"right") => find(rt, line, find::find_right),
         Some(b"left") => find(rt, line, find::find_left),
@@ -29,7 +29,7 @@ fn find_from_a_side(rt: &(impl Print + AllocGlobal), mut line: Line<'_>) -> Outc
     }
 }
 
-fn answer(rt: &(impl Print + AllocGlobal), mut line: Line<'_>) -> Outcome {
+fn answer(rt: &impl Print, mut line: Line<'_>) -> Outcome {
     match line.field() {
         Some(b"lay") => lay(rt, line),
         Some(b"find") => find_from_a_side(rt, line),

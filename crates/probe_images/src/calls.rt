@@ -1,7 +1,7 @@
 // Each command: its numbers and bytes are handed to the proved call, and what that answers and leaves is written.
-// What ends the program is a write that fails, or memory that runs out.
+// What ends the program is a write that fails.
 use console::answer::Outcome;
-use console::image::Bytes;
+use console::image::{Bytes, MOST_BYTES};
 use console::line::Line;
 use console::number::{Words, check_number};
 use console::records::{MOST_RECORDS, Records};
@@ -13,27 +13,29 @@ use refusal::Refusal;
 const MOST_WORDS: usize = 4097;
 
 // Lends the line's image to a call, and writes number + 2^32 × carried order, and the bytes.
-fn on_image<F>(rt: &(impl Print + AllocGlobal), mut line: Line<'_>, call: F) -> Outcome
+fn on_image<F>(rt: &impl Print, mut line: Line<'_>, call: F) -> Outcome
 where
     F: FnOnce(&mut [u8]) -> Result<Answer, Refusal>,
     requires { F.IsAlwaysCallable call }
 {
-    let mut image = line.bytes(rt.alloc())?;
+    let mut room = [0; MOST_BYTES];
+    let count = line.bytes(&mut room)?;
     line.end()?;
-    let answer = call(&mut image);
+    let image = &mut room[..count];
+    let answer = call(image);
     let packed = u64::from(number(answer)) + u64::from(carried(answer)) * 4_294_967_296;
-    print!(rt; "{packed}{}", Bytes(&image))?;
+    print!(rt; "{packed}{}", Bytes(image))?;
     Ok(())
 }
 
-pub fn lay(rt: &(impl Print + AllocGlobal), mut line: Line<'_>) -> Outcome {
+pub fn lay(rt: &impl Print, mut line: Line<'_>) -> Outcome {
     let parties = line.compared()?;
     let max = line.compared()?;
     let divide = line.compared()?;
     on_image(rt, line, |image| image::lay(image, max, parties, divide))
 }
 
-pub fn start(rt: &(impl Print + AllocGlobal), mut line: Line<'_>) -> Outcome {
+pub fn start(rt: &impl Print, mut line: Line<'_>) -> Outcome {
     let party = line.compared()?;
     let operation = line.compared()?;
     let order = line.order()?;
@@ -44,36 +46,41 @@ pub fn start(rt: &(impl Print + AllocGlobal), mut line: Line<'_>) -> Outcome {
     )
 }
 
-pub fn step(rt: &(impl Print + AllocGlobal), mut line: Line<'_>) -> Outcome {
+pub fn step(rt: &impl Print, mut line: Line<'_>) -> Outcome {
     let party = line.compared()?;
     let hint = line.compared()?;
     on_image(rt, line, |image| image::step(image, party, hint))
 }
 
-pub fn withdraw(rt: &(impl Print + AllocGlobal), mut line: Line<'_>) -> Outcome {
+pub fn withdraw(rt: &impl Print, mut line: Line<'_>) -> Outcome {
     let party = line.compared()?;
     on_image(rt, line, |image| image::withdraw(image, party))
 }
 
-pub fn read(rt: &(impl Print + AllocGlobal), mut line: Line<'_>) -> Outcome {
+pub fn read(rt: &impl Print, mut line: Line<'_>) -> Outcome {
     let words = line.count(MOST_WORDS)?;
     let parties = line.count(MOST_RECORDS)?;
-    let image = line.bytes(rt.alloc())?;
+    let mut bytes = [0; MOST_BYTES];
+    let count = line.bytes(&mut bytes)?;
     line.end()?;
-    let mut strip = vec![in rt.alloc(); 0; words]?;
-    let mut table = vec![in rt.alloc(); Record::idle(); parties]?;
-    let number = check_number(whole::read(&image, &mut strip, &mut table));
-    print!(rt; "{number}{}{}", Words(&strip), Records(&table))?;
+    let (mut strip, mut table) = ([0; MOST_WORDS], [Record::idle(); MOST_RECORDS]);
+    let (strip, table) = (&mut strip[..words], &mut table[..parties]);
+    let number = check_number(whole::read(&bytes[..count], strip, table));
+    print!(rt; "{number}{}{}", Words(strip), Records(table))?;
     Ok(())
 }
 
-pub fn write(rt: &(impl Print + AllocGlobal), mut line: Line<'_>) -> Outcome {
+pub fn write(rt: &impl Print, mut line: Line<'_>) -> Outcome {
     let words = line.count(MOST_WORDS)?;
-    let strip = line.words(rt.alloc(), words)?;
-    let table = line.table(rt.alloc())?;
-    let mut image = line.bytes(rt.alloc())?;
+    let mut strip = [0; MOST_WORDS];
+    line.words(&mut strip[..words])?;
+    let mut table = [Record::idle(); MOST_RECORDS];
+    let parties = line.table(&mut table)?;
+    let mut bytes = [0; MOST_BYTES];
+    let count = line.bytes(&mut bytes)?;
     line.end()?;
-    let number = check_number(whole::write(&mut image, &strip, &table));
-    print!(rt; "{number}{}", Bytes(&image))?;
+    let image = &mut bytes[..count];
+    let number = check_number(whole::write(image, &strip[..words], &table[..parties]));
+    print!(rt; "{number}{}", Bytes(image))?;
     Ok(())
 }

@@ -23,7 +23,7 @@ use console::input::answer_lines;
 use console::line::Line;
 use std::io;
 
-fn answer(rt: &(impl Print + AllocGlobal), mut line: Line<'_>) -> Outcome {
+fn answer(rt: &impl Print, mut line: Line<'_>) -> Outcome {
     match line.field() {
         Some(b"image-lay") => lay(rt, line),
         Some(b"image-start") => start(rt, line),

@@ -1,9 +1,9 @@
 // Each command: its numbers are handed to the proved call, and what that says and leaves is written.
-// What ends the program is a write that fails, or memory that runs out.
+// What ends the program is a write that fails.
 use console::answer::Outcome;
-use console::line::Line;
+use console::line::{Line, MOST_NUMBERS};
 use console::number::Words;
-use console::records::Records;
+use console::records::{MOST_RECORDS, Records};
 use party::{Answer, carried, number};
 use record::Record;
 use refusal::Refusal;
@@ -32,29 +32,33 @@ pub fn withdraw_record(rt: &impl Print, mut line: Line<'_>) -> Outcome {
     say(rt, answer, &[rec])
 }
 
-pub fn step_record(rt: &(impl Print + AllocGlobal), mut line: Line<'_>) -> Outcome {
+pub fn step_record(rt: &impl Print, mut line: Line<'_>) -> Outcome {
     let hint = line.compared()?;
     let mut rec = line.record()?;
-    let mut strip = line.last_words(rt.alloc())?;
-    let answer = table::step_record(&mut strip, &mut rec, hint);
+    let mut room = [0; MOST_NUMBERS];
+    let count = line.last_words(&mut room)?;
+    let strip = &mut room[..count];
+    let answer = table::step_record(strip, &mut rec, hint);
     say(rt, answer, &[rec])?;
-    print!(rt; "{}", Words(&strip))?;
+    print!(rt; "{}", Words(strip))?;
     Ok(())
 }
 
 // Lends the line's table to a call.
-fn on_table<F>(rt: &(impl Print + AllocGlobal), mut line: Line<'_>, call: F) -> Outcome
+fn on_table<F>(rt: &impl Print, mut line: Line<'_>, call: F) -> Outcome
 where
     F: FnOnce(&mut [Record]) -> Result<Answer, Refusal>,
     requires { F.IsAlwaysCallable call }
 {
-    let mut table = line.table(rt.alloc())?;
+    let mut room = [Record::idle(); MOST_RECORDS];
+    let count = line.table(&mut room)?;
     line.end()?;
-    let answer = call(&mut table);
-    say(rt, answer, &table)
+    let table = &mut room[..count];
+    let answer = call(table);
+    say(rt, answer, table)
 }
 
-pub fn start_in(rt: &(impl Print + AllocGlobal), mut line: Line<'_>) -> Outcome {
+pub fn start_in(rt: &impl Print, mut line: Line<'_>) -> Outcome {
     let max = line.compared()?;
     let party = line.compared()?;
     let operation = line.compared()?;
@@ -64,19 +68,22 @@ pub fn start_in(rt: &(impl Print + AllocGlobal), mut line: Line<'_>) -> Outcome 
     })
 }
 
-pub fn withdraw_in(rt: &(impl Print + AllocGlobal), mut line: Line<'_>) -> Outcome {
+pub fn withdraw_in(rt: &impl Print, mut line: Line<'_>) -> Outcome {
     let max = line.compared()?;
     let party = line.compared()?;
     on_table(rt, line, |table| table::withdraw_in(max, table, party))
 }
 
-pub fn step_in(rt: &(impl Print + AllocGlobal), mut line: Line<'_>) -> Outcome {
+pub fn step_in(rt: &impl Print, mut line: Line<'_>) -> Outcome {
     let party = line.compared()?;
     let hint = line.compared()?;
-    let mut table = line.table(rt.alloc())?;
-    let mut strip = line.last_words(rt.alloc())?;
-    let answer = table::step_in(&mut strip, &mut table, party, hint);
-    say(rt, answer, &table)?;
-    print!(rt; "{}", Words(&strip))?;
+    let mut records = [Record::idle(); MOST_RECORDS];
+    let parties = line.table(&mut records)?;
+    let mut words = [0; MOST_NUMBERS];
+    let count = line.last_words(&mut words)?;
+    let (table, strip) = (&mut records[..parties], &mut words[..count]);
+    let answer = table::step_in(strip, table, party, hint);
+    say(rt, answer, table)?;
+    print!(rt; "{}", Words(strip))?;
     Ok(())
 }

@@ -21,7 +21,7 @@ use console::input::answer_lines;
 use console::line::Line;
 use std::io;
 
-fn answer(rt: &(impl Print + AllocGlobal), mut line: Line<'_>) -> Outcome {
+fn answer(rt: &impl Print, mut line: Line<'_>) -> Outcome {
     match line.field() {
         Some(b"start-record") => start_record(rt, line),
         Some(b"withdraw-record") => withdraw_record(rt, line),

@@ -1,9 +1,10 @@
-use Rattle.std.proofs.Common.{◌≡◌, ◌≤◌, vec_len}
-use Rattle.console.specs.Numbers.{Reads}
+use Rattle.std.proofs.Common.{◌≡◌, ◌+◌, ◌-◌, ◌↔◌, min, length, take}
+use Rattle.console.specs.Numbers.{AreNumbers, Reads}
 use Rattle.console.proofs.line.Line.last_words.Given as goal
 
-abbrev pub invariant-loop : goal.invariant-loop
-invariant-loop l =
-    (vec_len l.words ≤ l.counter)
-    × (l.end ≡ l.fn.self.numbers)
-    × Reads l.fn.self.text.now l.words.items l.self.text.now
+abbrev pub invariant-loop-taken : goal.invariant-loop-taken
+invariant-loop-taken l = record {
+  counted : l.self.numbers + l.taken ≡ l.fn.self.numbers;
+  reads : Reads l.fn.self.text.now (take l.taken l.room) l.self.text.now;
+  next : AreNumbers (min l.fn.self.numbers (length l.fn.room)) l.fn.self.text.now ↔ AreNumbers (min l.self.numbers (length l.fn.room - l.taken)) l.self.text.now;
+}
