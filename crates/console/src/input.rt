@@ -58,7 +58,7 @@ where
     F: Fn(Line<'_>) -> Outcome,
     requires { F.IsAlwaysCallable answer }
 {
-    let mut input = Ahead::new(rt.reader());
+    let mut input = Ahead(rt.reader());
     let mut room = [0; LONGEST];
     for _ in 0..u64::MAX {
         let Some(count) = read_line(&mut input, &mut room)? else {
