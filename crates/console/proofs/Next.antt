@@ -1,5 +1,5 @@
 -- Which numbers are next in a text, one step on.
-use Rattle.std.proofs.Common.{ℕ, zero, suc, ◌≡◌, ◌≢◌, ◌⊎◌, ◌↔◌, ◌+◌, ◌-◌, ◌*◌, ◌<◌, ◌≤◌, ◌^◌, ◌&&◌, min, cond, ltb, Bool, true, false, List, [], ◌∷◌, ◌++◌, Option, Some, None, IfSome, IsSome, length, replicate, inl, inr, refl, subst, sym, ◌∙◌, arith, lit<}
+use Rattle.std.proofs.Common.{ℕ, zero, suc, ◌≡◌, ◌≢◌, ◌↔◌, ◌+◌, ◌-◌, ◌*◌, ◌<◌, ◌≤◌, ◌^◌, ◌&&◌, min, cond, ltb, Bool, true, false, List, [], ◌∷◌, ◌++◌, Option, Some, None, IfSome, length, replicate, inl, inr, refl, subst, sym, arith, lit<}
 use Rattle.std.specs.List.{list_all}
 use borrow.Author.Tests.{ltb-true}
 use Rattle.record.specs.declared.Record.{Record}

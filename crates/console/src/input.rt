@@ -11,7 +11,7 @@ use std::io::Read;
 // than the largest image has, so that one that is too long can be shown.
 const LONGEST: usize = 163_840;
 
-// No more bytes are read for one line.
+// No more bytes are read as one line.
 const MOST_READ: usize = 4_294_967_295;
 
 fn keep(room: &mut [u8], at: usize, byte: u8) {
@@ -22,16 +22,17 @@ fn keep(room: &mut [u8], at: usize, byte: u8) {
 
 // How many bytes a line has with its newline; none at the end of the input. What there is no room for is read and counted, and not kept.
 fn read_all(input: &mut impl Read, room: &mut [u8]) -> io::Result<usize> {
-    let mut count: usize = 0;
-    for byte in input.bytes().take(MOST_READ) {
-        let byte = byte?;
-        keep(room, count, byte);
-        count = count.saturating_add(1);
-        if byte == b'\n' {
-            break;
+    let mut byte = [0];
+    for count in 0..MOST_READ {
+        if input.read(&mut byte)? == 0 {
+            return Ok(count);
+        }
+        keep(room, count, byte[0]);
+        if byte[0] == b'\n' {
+            return Ok(count + 1);
         }
     }
-    Ok(count)
+    Ok(MOST_READ)
 }
 
 // A line with its newline, into a room: how many bytes, none at the end of the input. Where there is no room for a line, an empty one stands
@@ -50,13 +51,13 @@ pub fn read_line(input: &mut impl Read, room: &mut [u8]) -> io::Result<Option<us
     Ok(Some(count))
 }
 
-// Answers each line. Public for the text doors, which hand over what answers one, and asks that it may be called on any line. The loop ends
-// at a number that no input reaches, for a proved loop has to end.
+// Answers each line. Public for the text doors, which hand over what answers one, and asks that it may be called on a line of that length.
+// The loop ends at a number that no input reaches, for a proved loop has to end.
 pub fn answer_lines<R, F>(rt: &R, answer: F) -> io::Result<()>
 where
     R: Input + Print,
     F: Fn(Line<'_>) -> Outcome,
-    requires { F.IsAlwaysCallable answer }
+    requires { (line : _) → length line.text.now ≤ 163840 → F.pre answer line }
 {
     let mut input = Ahead(rt.reader());
     let mut room = [0; LONGEST];
