@@ -1,6 +1,7 @@
 -- Which numbers are next in a text, one step on.
-use Rattle.std.proofs.Common.{ℕ, zero, suc, ◌≡◌, ◌≢◌, ◌↔◌, ◌+◌, ◌-◌, ◌*◌, ◌<◌, ◌≤◌, ◌^◌, ◌&&◌, min, cond, ltb, Bool, true, false, List, [], ◌∷◌, ◌++◌, Option, Some, None, IfSome, length, replicate, inl, inr, refl, subst, sym, arith, lit<}
+use Rattle.std.proofs.Common.{ℕ, zero, suc, ◌≡◌, ◌≢◌, ◌↔◌, ◌+◌, ◌-◌, ◌*◌, ◌<◌, ◌≤◌, ◌^◌, ◌&&◌, min, cond, ltb, Bool, true, false, List, [], ◌∷◌, ◌++◌, Option, Some, None, IfSome, length, replicate, inl, inr, refl, subst, sym, ◌∙◌, arith, lit<}
 use Rattle.std.specs.List.{list_all}
+use Rattle.std.proofs.lemmas.List.{length-replicate, replicate_more}
 use borrow.Author.Tests.{ltb-true}
 use Rattle.record.specs.declared.Record.{Record}
 use Rattle.console.specs.Fields.{is_blank, field_of, rest_of}
@@ -37,8 +38,7 @@ one_on {A} count index most left text after within counted rest next all =
     let same : most - 1 ≡ left = omega arith in
     let P : ℕ → Type 0 = λ m. AreBelowNext (replicate m (2 ^ 64)) most text in
     let Q : ℕ → Type 0 = λ m. AreBelowNext (replicate (count - (index + 1)) (2 ^ 64)) m (rest_of text) in
-    let R : List ℕ → Type 0 = λ t. AreBelowNext (replicate (count - (index + 1)) (2 ^ 64)) left t in
-    (
+    let R : List ℕ → Type 0 = λ t. AreBelowNext (replicate (count - (index + 1)) (2 ^ 64)) left t in (
       λ a. let h : P (suc (count - (index + 1))) = subst P split (all.0 a) in subst R (sym rest) (subst Q same h.1),
       λ h. let h' : P (suc (count - (index + 1))) = (word_next most text next, subst Q (sym same) (subst R rest h)) in all.1 (subst P (sym split) h'),
     )
@@ -62,6 +62,14 @@ after_some (b ∷ bs) more [] most left text rest long counted reads next = absu
 after_some (b ∷ bs) more (n ∷ ns) most left text rest long counted reads next =
     let on = after_some bs more ns (most - 1) left (rest_of text) rest (omega arith) (omega arith) reads.1 next.1 in
     (λ h. on.0 h.1, λ h. (next.0, on.1 h))
+
+-- one word more is next
+pub word_after : (count most left : ℕ) (text rest ns : List ℕ) → length ns ≡ count → left + count ≡ most → Reads text ns rest → AreBelowNext (replicate count (2 ^ 64)) most text → IsNumberNext left rest → AreBelowNext (replicate (count + 1) (2 ^ 64)) most text
+word_after count most left text rest ns long counted reads words next =
+    let same : length ns ≡ length (replicate count (2 ^ 64)) = long ∙ sym (length-replicate count (2 ^ 64)) in
+    let on = after_some (replicate count (2 ^ 64)) ((2 ^ 64) ∷ []) ns most left text rest same (omega arith) reads words in
+    let P : List ℕ → Type 0 = λ bounds. AreBelowNext bounds most text in
+    subst P (replicate_more count (2 ^ 64)) (on.1 (word_next left rest next, tt))
 
 front_of : (bounds more : List ℕ) (most : ℕ) (text : List ℕ) → AreBelowNext (bounds ++ more) most text → AreBelowNext bounds most text
 front_of [] more most text h = tt
@@ -90,8 +98,7 @@ last_on {A} count index most left text after within counted rest inked next all 
     let split : min most (count - index) ≡ suc (min left (count - (index + 1))) = omega arith in
     let P : ℕ → Type 0 = λ m. AreNumbers m text in
     let here : IsNumberNext (suc (min left (count - (index + 1)))) text = (next.0, omega arith, next.2) in
-    let R : List ℕ → Type 0 = λ t. AreNumbers (min left (count - (index + 1))) t in
-    (
+    let R : List ℕ → Type 0 = λ t. AreNumbers (min left (count - (index + 1))) t in (
       λ a. subst R (sym rest) (to_rest (min left (count - (index + 1))) text inked (subst P split (all.0 a))),
       λ h. all.1 (subst P (sym split) (inr (here, subst R rest h))),
     )

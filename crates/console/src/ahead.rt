@@ -9,7 +9,9 @@ impl<R: BufRead> Read for Ahead<R> {
     fn read(&mut self, buf: &mut [u8]) -> io::Result<usize> {
         let ahead = self.0.fill_buf()?;
         let count = ahead.len().min(buf.len());
-        buf[..count].copy_from_slice(&ahead[..count]);
+        for (to, from) in buf.iter_mut().zip(ahead) {
+            *to = *from;
+        }
         self.0.consume(count);
         Ok(count)
     }

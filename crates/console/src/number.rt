@@ -123,6 +123,7 @@ impl Line<'_> {
         ensures bound { IfOk result (λ count. count ≤ self.old.numbers) }
         ensures within { IfOk result (λ count. count ≤ length room.new) }
         ensures value { IfOk result (λ count. Reads self.old.text.now (take count room.new) self.new.text.now) }
+        ensures words { IfOk result (λ count. AreBelowNext (replicate count (2 ^ 64)) self.old.numbers self.old.text.now) }
         ensures given { IsOk result ↔ AreNumbers (min self.old.numbers (length room.old)) self.old.text.now }
         ensures left { IfOk result (λ count. self.new.numbers + count ≡ self.old.numbers) }
         ensures refused { IfErr result (λ e. e ≡ Unanswered.NoCall) }
