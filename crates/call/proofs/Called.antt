@@ -88,7 +88,7 @@ module _ (strip : List ℕ) (table : List Record) (call : Call) where
 
   -- past the gate a call does what it does to the party's own record
   module _ (none : gated ≡ passes) where
-    leaves : {given : Answered} {words : List ℕ} → own_of strip (record_of table call) call ≡ given
+    leaves : {given : Answered Refusal} {words : List ℕ} → own_of strip (record_of table call) call ≡ given
         → own_leaves strip (record_of table call) call ≡ words → Leaves given.answer words (set table (party_of call) given.rec)
     leaves gives left = rw (← gives, ← left) (leaves_all (call_through none))
 

@@ -52,7 +52,7 @@ unfoldable pub gate : (words parties : ℕ) → Call → Check
 gate words parties call = gate_of words parties (is_unknown call) (party_of call)
 
 -- the call on the party's own record
-abbrev pub own_of : (strip : List ℕ) → Record → Call → Answered
+abbrev pub own_of : (strip : List ℕ) → Record → Call → Answered Refusal
 own_of strip r (start party operation order) = start_of (max_of (length strip)) r operation order
 own_of strip r (step party hint) = step_of strip r hint
 own_of strip r (withdraw party) = withdraw_of (max_of (length strip)) r

@@ -26,17 +26,17 @@ use Rattle.schedule.specs.List.{list_refusal, listed_of, ListPromise}
 use Rattle.conventions.specs.Given.{busy, popping, before_pop, after_pop}
 
 -- A pop carries its order and leaves its record idle, lent alone and in a table.
-pub a_lent_pop_is_done_and_told : {answer : Result Answer Refusal} {words : List ℕ} {left : List Record}
-    → Does before_pop (alone popping) (step 0 0) answer words left
-    → (number_of answer ≡ 17) × (carried_of answer ≡ 7) × (words ≡ after_pop) × (left ≡ alone idle)
+pub a_lent_pop_is_done_and_told : {answer : Result Answer Refusal} {carried : ℕ} {words : List ℕ} {left : List Record}
+    → Does before_pop (alone popping) (step 0 0) answer carried words left
+    → (number_of answer ≡ 17) × (carried_of answer ≡ 7) × (carried ≡ 7) × (words ≡ after_pop) × (left ≡ alone idle)
 unfolding valid_of access_of step_own step_refusal step_of step_leaves gate call_of
-a_lent_pop_is_done_and_told p = (ap number_of p.answer_is, ap carried_of p.answer_is, p.words_left, p.records_left)
+a_lent_pop_is_done_and_told p = (ap number_of p.answer_is, ap carried_of p.answer_is, p.carried_is, p.words_left, p.records_left)
 
-pub a_pop_in_a_table_is_done_and_told : {answer : Result Answer Refusal} {words : List ℕ} {left : List Record}
-    → Does before_pop (busy ∷ popping ∷ []) (step 1 0) answer words left
-    → (number_of answer ≡ 17) × (carried_of answer ≡ 7) × (words ≡ after_pop) × (left ≡ busy ∷ idle ∷ [])
+pub a_pop_in_a_table_is_done_and_told : {answer : Result Answer Refusal} {carried : ℕ} {words : List ℕ} {left : List Record}
+    → Does before_pop (busy ∷ popping ∷ []) (step 1 0) answer carried words left
+    → (number_of answer ≡ 17) × (carried_of answer ≡ 7) × (carried ≡ 7) × (words ≡ after_pop) × (left ≡ busy ∷ idle ∷ [])
 unfolding valid_of access_of step_own step_refusal step_of step_leaves gate call_of
-a_pop_in_a_table_is_done_and_told p = (ap number_of p.answer_is, ap carried_of p.answer_is, p.words_left, p.records_left)
+a_pop_in_a_table_is_done_and_told p = (ap number_of p.answer_is, ap carried_of p.answer_is, p.carried_is, p.words_left, p.records_left)
 
 -- A buffer that is too short is 1, whatever the file.
 pub a_short_buffer_is_1 : {file strip out : List ℕ} {got : Result ℕ Refusal} {words bytes : List ℕ} → ListPromise file strip out got words bytes

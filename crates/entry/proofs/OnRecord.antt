@@ -52,7 +52,7 @@ module _ (strip : List ℕ) (parties : ℕ) (r : Record) (call : Call) where
           rw (away.0, away.1) (λ h. (refl, refl), λ h. refl)
 
   -- Two results that keep the promise are equal, and so are the words they leave.
-  pub two_on_record_that_keep_it_are_equal : {one two : Answered} {left other : List ℕ}
+  pub two_on_record_that_keep_it_are_equal : {one two : Answered Refusal} {left other : List ℕ}
       → one ≡ on_record_of strip parties r call → left ≡ on_record_leaves strip parties r call
       → two ≡ on_record_of strip parties r call → other ≡ on_record_leaves strip parties r call → (one ≡ two) × (left ≡ other)
   two_on_record_that_keep_it_are_equal gives words other-gives other-words = (gives ∙ sym other-gives, words ∙ sym other-words)

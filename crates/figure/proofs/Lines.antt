@@ -16,6 +16,7 @@ use Rattle.record.specs.Record.{again, at_stage, with_operation}
 use Rattle.record.specs.Valid.{is_idle}
 use Rattle.party.specs.Answer.{is_refusal, number_of, going_on}
 use Rattle.record.specs.declared.Record.{Record}
+use Rattle.refusal.specs.declared.Refusal.{Refusal}
 use Rattle.party.specs.declared.Answered.{Answered}
 use Rattle.stages.specs.Stages.{access_of}
 use Rattle.stages.specs.Follow.{judge_of, recheck_of, won_of, swapped_of}
@@ -33,12 +34,12 @@ use Rattle.figure.specs.Reading.{element_of, elements, Reaches, Matches, IsTheLi
 use Rattle.figure.proofs.Elements.{same_is_whole, element_at, element_raised, elements_set}
 
 -- where both lead the same way by one test
-either : (test : Bool) {n m : Next} {x y : Answered} → Reaches n x → Reaches m y → Reaches (pick test n m) (pick test x y)
+either : (test : Bool) {n m : Next} {x y : Answered Refusal} → Reaches n x → Reaches m y → Reaches (pick test n m) (pick test x y)
 either true p q = p
 either false p q = q
 
 -- RH4 and RP4 pass exactly where stage 2 is not misled
-judged : (left right : Bool) {n m : Next} {x y : Answered} → Reaches n x → Reaches m y
+judged : (left right : Bool) {n m : Next} {x y : Answered Refusal} → Reaches n x → Reaches m y
     → Reaches (pick (not left && right) n m) (pick (left || not right) y x)
 judged true right p q = q
 judged false true p q = p

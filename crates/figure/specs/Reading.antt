@@ -6,6 +6,7 @@ use Rattle.record.specs.Operation.{is_push}
 use Rattle.record.specs.declared.Record.{Record}
 use Rattle.std.specs.declared.result.Result.TheVariants.{Ok}
 use Rattle.party.specs.declared.Answer.TheVariants.{GoesOn, Pushed, Popped, Full, Empty}
+use Rattle.refusal.specs.declared.Refusal.{Refusal}
 use Rattle.party.specs.declared.Answered.{Answered}
 use Rattle.step.specs.Step.{max_of, step_of, step_leaves}
 use Rattle.figure.specs.Figure.{Element, element, Line, Next, told, After, run}
@@ -36,7 +37,7 @@ abbrev pub line_at : Record → (hint : ℕ) → Line
 line_at r hint = pick (is_push r.operation) (push_line r hint) (pop_line r hint)
 
 -- What a step gives says where the figure is: at the record's line, whatever the next hint; or returned. A refusal says nothing.
-pub data Reaches (next : Next) (given : Answered) : Type 0 where
+pub data Reaches (next : Next) (given : Answered Refusal) : Type 0 where
   goes_on : given.answer ≡ Ok GoesOn → ((hint : ℕ) → told hint next ≡ Next.on (line_at given.rec hint)) → Reaches next given
   pushed : given.answer ≡ Ok Pushed → next ≡ Next.ok → Reaches next given
   popped : (order : ℕ) → given.answer ≡ Ok (Popped order) → next ≡ Next.value order → Reaches next given
@@ -44,7 +45,7 @@ pub data Reaches (next : Next) (given : Answered) : Type 0 where
   emptied : given.answer ≡ Ok Empty → next ≡ Next.empty → Reaches next given
 
 -- What is given and left is what a line leaves.
-pub record Matches (after : After) (given : Answered) (left : List ℕ) : Type 0 where
+pub record Matches (after : After) (given : Answered Refusal) (left : List ℕ) : Type 0 where
   pub array : after.array ≡ elements left
   pub next : Reaches after.next given
 

@@ -96,10 +96,10 @@ module _ (image : List ℕ) (call : Call) (are : AreBytes image) (clear : named_
   record_is : record_of (table_of image) call ≡ record_in image call
   record_is = record_is_read image (party_of call) fits.party_known
 
-  abbrev Owned : Answered → List ℕ → Type 0
+  abbrev Owned : Answered Refusal → List ℕ → Type 0
   Owned given left = (own_of (strip_of image) (record_in image call) call ≡ given) × (own_leaves (strip_of image) (record_in image call) call ≡ left)
 
-  goes : {given : Answered} {left : List ℕ} → Owned given left
+  goes : {given : Answered Refusal} {left : List ℕ} → Owned given left
       → image_of image call ≡ record { answer = given.answer; image = spelled image left (set (table_of image) (party_of call) given.rec) }
   goes owned =
       call_is image call are ∙ rw (clear, record_is, owned.0, owned.1) refl
@@ -115,15 +115,15 @@ module _ (image : List ℕ) (call : Call) (are : AreBytes image) (clear : named_
     own_fit : Fit (strip_of image) (own_leaves (strip_of image) (record_in image call) call) (own_of (strip_of image) (record_in image call) call).rec
     own_fit = own_leaves_lem (strip_of image) (words_fit image are) (record_in image call) (read_record_fits (version_at image) image (place_in image call) are) call narrow
 
-    rec_fits : (given : Answered) {left : List ℕ} → Owned given left → RecordFits given.rec
-    rec_fits given owned = subst (λ (a : Answered). RecordFits a.rec) owned.0 own_fit.rec
+    rec_fits : (given : Answered Refusal) {left : List ℕ} → Owned given left → RecordFits given.rec
+    rec_fits given owned = subst (λ (a : Answered Refusal). RecordFits a.rec) owned.0 own_fit.rec
 
-    pub own_recorded : (given : Answered) → Owned given (strip_of image)
+    pub own_recorded : (given : Answered Refusal) → Owned given (strip_of image)
         → image_of image call ≡ record { answer = given.answer; image = recorded (version_at image) image (place_in image call) given }
     own_recorded given owned =
         goes owned ∙ rw (record_is_laid image are (party_of call) given.rec (rec_fits given owned) fits.party_known) refl
 
-    pub own_swapped : (given : Answered) (place w : ℕ) → Owned given (set (strip_of image) place w) → place < max_at image + 2
+    pub own_swapped : (given : Answered Refusal) (place w : ℕ) → Owned given (set (strip_of image) place w) → place < max_at image + 2
         → image_of image call ≡ record { answer = given.answer; image = recorded (version_at image) (sets image (word_place words_base place) (bytes_of 8 w)) (place_in image call) given }
     own_swapped given place w owned inside =
         let within : place < length (strip_of image) = rw (strip_length image) inside in

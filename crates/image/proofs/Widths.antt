@@ -12,6 +12,7 @@ use Rattle.word.specs.declared.Swapped.{Swapped}
 use Rattle.word.specs.declared.Swapped.TheVariants.{Won, Lost, Stuck}
 use Rattle.record.specs.Record.{idle, begun, with_place}
 use Rattle.record.specs.declared.Record.{Record}
+use Rattle.refusal.specs.declared.Refusal.{Refusal}
 use Rattle.party.specs.declared.Answered.{Answered}
 use Rattle.stages.specs.Follow.{misled, push_at_wall, pop_at_far, judge_of, recheck_of, looked_of, swapped_of}
 use Rattle.step.specs.Step.{aimed}
@@ -34,7 +35,7 @@ aimed_fits r hint fits narrow = go (eqb r.stage 1) refl
     go true e = omega (arith, narrow (eqb-true r.stage 1 e), fits)
     go false e = omega (arith, fits)
 
-abbrev LeavesFitting : Answered → Type 0
+abbrev LeavesFitting : Answered Refusal → Type 0
 LeavesFitting given = RecordFits given.rec
 
 module _ (max : ℕ) (r : Record) (fits : RecordFits r) where

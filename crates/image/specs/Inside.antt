@@ -19,7 +19,7 @@ use Rattle.format.specs.Format.{word_place}
 use Rattle.format.specs.Spelling.{record_bytes}
 
 -- the bytes that the record at a place is left with
-abbrev pub recorded : (version : ℕ) → List ℕ → (at : ℕ) → Answered → List ℕ
+abbrev pub recorded : (version : ℕ) → List ℕ → (at : ℕ) → Answered Refusal → List ℕ
 recorded version image at given = sets image at (record_bytes version given.rec)
 
 -- the word at a place of the strip that begins at a base
@@ -31,7 +31,7 @@ pub record LookMade (image : List ℕ) (base at max : ℕ) (r : Record) (place :
   pub bytes_left : left ≡ recorded (version_at image) image at (looked_of max r then (seen_at image base place))
 
 -- only a swap that won writes the word; one at the counter's end leaves the record too as it was
-abbrev pub swap_recorded : Swapped → List ℕ → (base at place word : ℕ) → Answered → List ℕ
+abbrev pub swap_recorded : Swapped → List ℕ → (base at place word : ℕ) → Answered Refusal → List ℕ
 swap_recorded Won image base at place word given =
     recorded (version_at image) (sets image (word_place base place) (bytes_of 8 word)) at given
 swap_recorded (Lost met) image base at place word given = recorded (version_at image) image at given

@@ -15,6 +15,7 @@ use Rattle.record.specs.Valid.{place_fits, at_wall}
 use Rattle.std.specs.declared.result.Result.TheVariants.{Ok}
 use Rattle.party.specs.Answer.{going_on}
 use Rattle.record.specs.declared.Record.{Record}
+use Rattle.refusal.specs.declared.Refusal.{Refusal}
 use Rattle.party.specs.declared.Answered.{Answered}
 use Rattle.party.specs.declared.Answer.TheVariants.{GoesOn}
 use Rattle.stages.specs.Stages.{near, own, far}
@@ -89,19 +90,19 @@ pub data StepLooks (strip : List ℕ) (r : Record) (hint : ℕ) (p : Plain) : Ty
 
 module _ (strip : List ℕ) (r : Record) (hint : ℕ) (p : Plain) (fits : strip_fits (length strip) ≡ true) (sound : Sound strip r)
     (stands : StandsFor strip p) where
-  gone_remembers : {given : Answered} {left : List ℕ} (then : Plain) → Gone strip r hint given left → Remembers left given.rec then
+  gone_remembers : {given : Answered Refusal} {left : List ℕ} (then : Plain) → Gone strip r hint given left → Remembers left given.rec then
       → Remembers (step_leaves strip r hint) (step_of strip r hint).rec then
   gone_remembers then gone known = rw (gone.answered, gone.words) known
 
   -- to another stage than 2 and 3
-  forgotten : {given : Answered} {left : List ℕ} → Gone strip r hint given left → Elsewhere given.rec → StepLooks strip r hint p
+  forgotten : {given : Answered Refusal} {left : List ℕ} → Gone strip r hint given left → Elsewhere given.rec → StepLooks strip r hint p
   forgotten {given} {left} gone off =
       StepLooks.forgets (λ then. gone_remembers then gone (remembers_nothing left given.rec then off))
 
   looked : {next : Record} → (r.stage ≡ 1) ⊎ (r.stage ≡ 2) → Gone strip r hint (going_on next) strip → Remembers strip next p
       → StepLooks strip r hint p
   looked stage gone known =
-      StepLooks.looks stage (ap (λ (a : Answered). a.answer) gone.answered) (gone_remembers p gone known)
+      StepLooks.looks stage (ap (λ (a : Answered Refusal). a.answer) gone.answered) (gone_remembers p gone known)
 
   pub step_looks : Steppable (length strip) r hint → GoneOn strip r hint → StepLooks strip r hint p
   step_looks clear (GoneOn.remembers s gone) =

@@ -48,8 +48,8 @@ module _ (strip : List ℕ) (r : Record) (hint : ℕ) (p : Plain) where
 
 module _ (strip : List ℕ) (r : Record) (hint : ℕ) (p : Plain) (fits : strip_fits (length strip) ≡ true) (sound : Sound strip r)
     (stands : StandsFor strip p) where
-  answer_is : {given : Answered} {left : List ℕ} → Gone strip r hint given left → (step_of strip r hint).answer ≡ given.answer
-  answer_is gone = ap (λ (a : Answered). a.answer) gone.answered
+  answer_is : {given : Answered Refusal} {left : List ℕ} → Gone strip r hint given left → (step_of strip r hint).answer ≡ given.answer
+  answer_is gone = ap (λ (a : Answered Refusal). a.answer) gone.answered
 
   at : 2 ≤ r.stage → Placed (length strip) r
   at = placed (length strip) r fits sound.valid

@@ -8,6 +8,7 @@ use native.Mathlib.Omega.{arith}
 use Rattle.record.specs.Record.{idle, again}
 use Rattle.record.specs.Valid.{valid_of}
 use Rattle.record.specs.declared.Record.{Record}
+use Rattle.refusal.specs.declared.Refusal.{Refusal}
 use Rattle.party.specs.declared.Answered.{Answered}
 use Rattle.step.specs.Step.{strip_fits, max_of, step_of, step_leaves}
 use Rattle.step.proofs.Kept.{step_keeps_valid}
@@ -27,17 +28,17 @@ module _ (strip : List ℕ) (table : List Record) (party hint : ℕ) (fits : str
   sound = sane.sound party known
 
   -- what the step leaves is sane if what it went to is, and what it went to is valid
-  gone_sane : {given : Answered} {left : List ℕ} → Gone strip r hint given left → Sane left (set table party given.rec)
+  gone_sane : {given : Answered Refusal} {left : List ℕ} → Gone strip r hint given left → Sane left (set table party given.rec)
       → Sane (step_leaves strip r hint) (set table party (step_of strip r hint).rec)
   gone_sane gone done = rw (gone.answered, gone.words) done
 
-  gone_valid : {given : Answered} {left : List ℕ} → Gone strip r hint given left → valid_of (max_of (length strip)) given.rec ≡ true
+  gone_valid : {given : Answered Refusal} {left : List ℕ} → Gone strip r hint given left → valid_of (max_of (length strip)) given.rec ≡ true
   gone_valid gone =
-      ap (λ (a : Answered). valid_of (max_of (length strip)) a.rec) (sym gone.answered)
+      ap (λ (a : Answered Refusal). valid_of (max_of (length strip)) a.rec) (sym gone.answered)
       ∙ step_keeps_valid strip r hint sound.valid
 
   -- nothing was written: the record alone is new, and not at stage 5
-  quiet : {given : Answered} → Gone strip r hint given strip → Sound strip given.rec → given.rec.stage ≤ 4
+  quiet : {given : Answered Refusal} → Gone strip r hint given strip → Sound strip given.rec → given.rec.stage ≤ 4
       → Sane (step_leaves strip r hint) (set table party (step_of strip r hint).rec)
   quiet gone now early = gone_sane gone (set_early_sane sane party now early)
 

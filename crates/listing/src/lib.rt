@@ -4,7 +4,8 @@
 ghost use Rattle.std.specs.Prelude.{◌≡◌, ◌++◌, ◌∷◌, []};
 ghost use Rattle.text.specs.Writing.{Room, Puts};
 ghost use Rattle.entry.specs.Entry.{asked_of};
-ghost use Rattle.listing.specs.Told.{shown_effect, turn_text};
+ghost use Rattle.listing.specs.Told.{shown_effect, shown_of, shown_text};
+ghost use Rattle.run.specs.declared.Turn.{Turn};
 ghost use Rattle.listing.specs.Listing.{header_text, word_text, words_text, cells_text};
 
 use entry::{Entry, party_of};
@@ -12,6 +13,26 @@ use party::{carried, number};
 use run::Turn;
 use text::Text;
 use word::{counter, value};
+
+// What a line shows of an entry's turn: any number, any order beside it, and the effect, where there is one, whatever the number.
+#[derive(Clone, Copy)]
+pub struct Shown {
+    pub number: u32,
+    pub carried: u32,
+    pub effect: Option<u32>,
+}
+
+impl From<Turn> for Shown {
+    ghost from_gives = { λ turn shown. shown ≡ shown_of turn };
+
+    fn from(turn: Turn) -> Shown {
+        Shown {
+            number: number(turn.answer),
+            carried: carried(turn.answer),
+            effect: turn.effect,
+        }
+    }
+}
 
 // The entry where an operation took effect, or "-".
 fn put_effect(text: &mut Text, effect: Option<u32>)
@@ -25,16 +46,16 @@ fn put_effect(text: &mut Text, effect: Option<u32>)
 }
 
 // Entry, party, number, carried order, effect. Public for the schedule, which knows that there is room.
-pub fn put_line(text: &mut Text, entry: u32, e: Entry, turn: Turn)
-    requires { Room (turn_text entry (asked_of e) turn) text.old }
-    ensures { Puts (turn_text entry (asked_of e) turn) text.old text.new }
+pub fn put_line(text: &mut Text, entry: u32, e: Entry, shown: Shown)
+    requires { Room (shown_text entry (asked_of e) shown) text.old }
+    ensures { Puts (shown_text entry (asked_of e) shown) text.old text.new }
 {
     text.put_decimal(entry);
     text.put_spaced(party_of(e) as u32);
-    text.put_spaced(number(turn.answer));
-    text.put_spaced(carried(turn.answer));
+    text.put_spaced(shown.number);
+    text.put_spaced(shown.carried);
     text.put_byte(b' ');
-    put_effect(text, turn.effect);
+    put_effect(text, shown.effect);
     text.put_byte(b'\n');
 }
 

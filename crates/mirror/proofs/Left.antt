@@ -19,6 +19,7 @@ use Rattle.refusal.specs.declared.Refusal.TheVariants.{CounterAtEnd}
 use Rattle.refusal.specs.Refusal.{Check, if_passes}
 use Rattle.party.specs.Answer.{going_on, ends, refused, unless}
 use Rattle.record.specs.declared.Record.{Record}
+use Rattle.refusal.specs.declared.Refusal.{Refusal}
 use Rattle.party.specs.declared.Answered.{Answered}
 use Rattle.party.specs.declared.Answer.TheVariants.{Popped}
 use Rattle.stages.specs.Stages.{access_of}
@@ -36,11 +37,11 @@ use Rattle.mirror.proofs.Strips.{length_mirror, mirror_at, mirror_set}
 use Rattle.mirror.proofs.Refusals.{wall_mirrors, by_stage, past_is_invalid, push_refused_alike, pop_refused_alike}
 
 -- what computes to its mirror
-mirrored : {max : ℕ} {given : Answered} {left : List ℕ} → Mirrors max given left (mirror_answered max given) (mirror_strip left)
+mirrored : {max : ℕ} {given : Answered Refusal} {left : List ℕ} → Mirrors max given left (mirror_answered max given) (mirror_strip left)
 mirrored = record { answered = refl; words = refl }
 
 -- where both go the same way by one test
-either : {max : ℕ} {left left' : List ℕ} (test : Bool) {x y x' y' : Answered} → Mirrors max x left x' left' → Mirrors max y left y' left'
+either : {max : ℕ} {left left' : List ℕ} (test : Bool) {x y x' y' : Answered Refusal} → Mirrors max x left x' left' → Mirrors max y left y' left'
     → Mirrors max (pick test x y) left (pick test x' y') left'
 either true p q = p
 either false p q = q

@@ -51,11 +51,11 @@ mirror_answer (Ok Empty) = Ok Empty
 mirror_answer (Err refusal) = Err refusal
 
 -- what a call gives: the answer and the record
-abbrev pub mirror_answered : (max : ℕ) → Answered → Answered
+abbrev pub mirror_answered : (max : ℕ) → Answered Refusal → Answered Refusal
 mirror_answered max given = record { answer = mirror_answer given.answer; rec = mirror_record max given.rec }
 
 -- what a call gave and left on the mirrored side is the mirror of what it gave and left
-pub record Mirrors (max : ℕ) (given : Answered) (left : List ℕ) (given' : Answered) (left' : List ℕ) : Type 0 where
+pub record Mirrors (max : ℕ) (given : Answered Refusal) (left : List ℕ) (given' : Answered Refusal) (left' : List ℕ) : Type 0 where
   pub answered : given' ≡ mirror_answered max given
   pub words : left' ≡ mirror_strip left
 

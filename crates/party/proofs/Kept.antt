@@ -17,19 +17,20 @@ use Rattle.record.specs.Valid.{is_idle, valid_of}
 use Rattle.party.specs.Answer.{going_on, refused, unless, RefusedKeeps, RefusedOr}
 use Rattle.party.specs.Calls.{max_fits, start_own, start_refusal, start_of, withdraw_own, withdraw_refusal, withdraw_of}
 use Rattle.record.specs.declared.Record.{Record}
+use Rattle.refusal.specs.declared.Refusal.{Refusal}
 use Rattle.party.specs.declared.Answered.{Answered}
 use Rattle.record.proofs.Stages.{ValidAt, at_valid}
 use Rattle.party.proofs.Cleared.{startable}
 
 -- Two results that keep one promise are equal.
-pub two_that_keep_it_are_equal : {wanted one two : Answered} → one ≡ wanted → two ≡ wanted → one ≡ two
+pub two_that_keep_it_are_equal : {wanted one two : Answered Refusal} → one ≡ wanted → two ≡ wanted → one ≡ two
 two_that_keep_it_are_equal p q = p ∙ sym q
 
 -- 0 is no refusal
 going_on_keeps : (r next : Record) → RefusedKeeps r (going_on next)
 going_on_keeps r next refused = absurd (true≢false (sym refused))
 
-pub unless_keeps : (check : Check) (r : Record) (done : Answered) → RefusedKeeps r done → RefusedKeeps r (unless check r done)
+pub unless_keeps : (check : Check) (r : Record) (done : Answered Refusal) → RefusedKeeps r done → RefusedKeeps r (unless check r done)
 unless_keeps (Ok passed) r done keeps = keeps
 unless_keeps (Err refusal) r done keeps = λ refused. (refl, refl)
 

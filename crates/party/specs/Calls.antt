@@ -9,6 +9,7 @@ use Rattle.refusal.specs.declared.Refusal.TheVariants.{WrongSize, WrongOperation
 use Rattle.refusal.specs.Refusal.{Check, passes}
 use Rattle.party.specs.Answer.{going_on, unless}
 use Rattle.record.specs.declared.Record.{Record}
+use Rattle.refusal.specs.declared.Refusal.{Refusal}
 use Rattle.party.specs.declared.Answered.{Answered}
 
 -- MAX is from 1 to 4,094
@@ -25,7 +26,7 @@ unfoldable pub start_refusal : (max : ℕ) → Record → (operation order : ℕ
 start_refusal max r operation order =
     pick (not (max_fits max)) (Err WrongSize) (pick (ltb 3 operation) (Err WrongOperation) (start_own max r operation order))
 
-unfoldable pub start_of : (max : ℕ) → Record → (operation order : ℕ) → Answered
+unfoldable pub start_of : (max : ℕ) → Record → (operation order : ℕ) → Answered Refusal
 start_of max r operation order = unless (start_refusal max r operation order) r (going_on (begun operation order))
 
 -- those of a withdrawal: not valid, idle
@@ -35,5 +36,5 @@ withdraw_own max r = pick (not (valid_of max r)) (Err NotValid) (pick (is_idle r
 unfoldable pub withdraw_refusal : (max : ℕ) → Record → Check
 withdraw_refusal max r = pick (not (max_fits max)) (Err WrongSize) (withdraw_own max r)
 
-unfoldable pub withdraw_of : (max : ℕ) → Record → Answered
+unfoldable pub withdraw_of : (max : ℕ) → Record → Answered Refusal
 withdraw_of max r = unless (withdraw_refusal max r) r (going_on idle)

@@ -2,16 +2,18 @@
 #![tactic(auto)]
 
 pub mod make;
+#[cfg(test)]
+mod tests;
 
 ghost use Rattle.std.specs.Prelude.{◌≡◌};
-ghost use Rattle.party.specs.Answer.{number_of, carried_of};
+ghost use Rattle.party.specs.Answer.{number_by, order_in};
 ghost use Rattle.party.specs.Calls.{max_fits, start_own, start_refusal, start_of};
 ghost use Rattle.party.specs.Calls.{withdraw_own, withdraw_refusal, withdraw_of};
 
 use crate::make::{going_on, refused_with};
 use record::Record;
 use record::side::order_fits;
-use refusal::Refusal;
+use refusal::{Reason, Refusal};
 
 // What a call that is not refused answers: specs/Answer.antt gives document 01's number and carried order for each case.
 #[derive(Clone, Copy, Debug, PartialEq, Eq)]
@@ -23,16 +25,16 @@ pub enum Answer {
     Empty,
 }
 
-// The answer of a call that was handed a record by value, and the record it leaves.
+// The answer of a call that was handed a record by value, and the record it leaves. What refuses a call here is a `Refusal`.
 #[derive(Clone, Copy)]
-pub struct Answered {
-    pub answer: Result<Answer, Refusal>,
+pub struct Answered<E = Refusal> {
+    pub answer: Result<Answer, E>,
     pub rec: Record,
 }
 
-// Document 01's number of an answer.
-pub fn number(answer: Result<Answer, Refusal>) -> u32
-    ensures { result ≡ number_of answer }
+// Document 01's number of an answer; what refuses it tells its own.
+pub fn number<E: Reason>(answer: Result<Answer, E>) -> u32
+    ensures { result ≡ number_by E.number_told answer }
 {
     match answer {
         Ok(Answer::GoesOn) => 0,
@@ -40,13 +42,13 @@ pub fn number(answer: Result<Answer, Refusal>) -> u32
         Ok(Answer::Popped(_)) => 17,
         Ok(Answer::Full) => 18,
         Ok(Answer::Empty) => 19,
-        Err(refusal) => refusal.number(),
+        Err(refusal) => refusal.told(),
     }
 }
 
 // The order that an answer carries.
-pub fn carried(answer: Result<Answer, Refusal>) -> u32
-    ensures { result ≡ carried_of answer }
+pub fn carried<E: Reason>(answer: Result<Answer, E>) -> u32
+    ensures { result ≡ order_in answer }
 {
     match answer {
         Ok(Answer::Popped(order)) => order,

@@ -1,10 +1,10 @@
 // What the calls answer, with the record they leave.
 ghost use Rattle.std.specs.Prelude.{◌≡◌};
-ghost use Rattle.party.specs.Answer.{going_on, ends, refused};
+ghost use Rattle.party.specs.Answer.{going_on, idle_after, refused};
 
 use crate::{Answer, Answered};
 use record::Record;
-use refusal::Refusal;
+use refusal::Reason;
 
 pub fn going_on(r: Record) -> Answered
     ensures { result ≡ going_on r }
@@ -15,16 +15,17 @@ pub fn going_on(r: Record) -> Answered
     }
 }
 
-pub fn ended(answer: Answer) -> Answered
-    ensures { result ≡ ends answer }
+// The record is all zero behind every answer that it is handed, a refusal too.
+pub fn ended<E: Reason>(answer: Result<Answer, E>) -> Answered<E>
+    ensures { result ≡ idle_after answer }
 {
     Answered {
-        answer: Ok(answer),
+        answer,
         rec: Record::idle(),
     }
 }
 
-pub fn refused_with(refusal: Refusal, r: Record) -> Answered
+pub fn refused_with<E: Reason>(refusal: E, r: Record) -> Answered<E>
     ensures { result ≡ refused refusal r }
 {
     Answered {

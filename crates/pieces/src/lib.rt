@@ -4,4 +4,6 @@
 #![tactic(auto)]
 
 pub mod reading;
+#[cfg(test)]
+mod tests;
 pub mod writing;

@@ -19,7 +19,7 @@ use format::fields::write_record;
 use format::fresh::lay_header;
 use little::put;
 use record::Record;
-use refusal::Refusal;
+use refusal::{Reason, Refusal};
 
 // The sizes alone: no byte is looked at.
 pub fn sizes_refusal(bytes: usize, words: usize, parties: usize) -> Result<(), Refusal>
@@ -36,12 +36,12 @@ pub fn sizes_refusal(bytes: usize, words: usize, parties: usize) -> Result<(), R
 
 // What the records so far are refused for, and NotValid from the first on that is not valid. Public for write, which calls it past its
 // check of the sizes. It takes what came before, not `?` at each record: docs/PROMISES.md names it, and write_a_record_not_valid forgets.
-pub fn next_refusal(so_far: Result<(), Refusal>, words: usize, r: Record) -> Result<(), Refusal>
+pub fn next_refusal<E: Reason>(so_far: Result<(), E>, words: usize, r: Record) -> Result<(), E>
     requires { (2 ≤ words) × (words ≤ 4096) }
-    ensures { result ≡ pick (valid_of (max_of words) r) so_far (Err NotValid) }
+    ensures { result ≡ pick (valid_of (max_of words) r) so_far (Err (E.reason_of NotValid)) }
 {
     if !r.is_valid((words - 2) as u16) {
-        return Err(Refusal::NotValid);
+        return Err(E::from_refusal(Refusal::NotValid));
     }
     so_far
 }

@@ -4,13 +4,18 @@ use console::answer::Outcome;
 use console::line::{Line, MOST_NUMBERS};
 use console::number::Words;
 use console::records::{MOST_RECORDS, Records};
-use party::{Answer, carried, number};
+use party::number;
 use record::Record;
-use refusal::Refusal;
+use table::Said;
 
 // The number, the carried order and the records that were lent.
-fn say(rt: &impl Print, answer: Result<Answer, Refusal>, table: &[Record]) -> Outcome {
-    print!(rt; "{} {}{}", number(answer), carried(answer), Records(table))?;
+fn say(rt: &impl Print, said: Said, table: &[Record]) -> Outcome {
+    print!(rt;
+        "{} {}{}",
+        number(said.answer),
+        said.carried,
+        Records(table)
+    )?;
     Ok(())
 }
 
@@ -20,16 +25,16 @@ pub fn start_record(rt: &impl Print, mut line: Line<'_>) -> Outcome {
     let operation = line.compared()?;
     let order = line.order()?;
     line.end()?;
-    let answer = table::start_record(max, &mut rec, operation, order);
-    say(rt, answer, &[rec])
+    let said = table::start_record(max, &mut rec, operation, order);
+    say(rt, said, &[rec])
 }
 
 pub fn withdraw_record(rt: &impl Print, mut line: Line<'_>) -> Outcome {
     let max = line.compared()?;
     let mut rec = line.record()?;
     line.end()?;
-    let answer = table::withdraw_record(max, &mut rec);
-    say(rt, answer, &[rec])
+    let said = table::withdraw_record(max, &mut rec);
+    say(rt, said, &[rec])
 }
 
 pub fn step_record(rt: &impl Print, mut line: Line<'_>) -> Outcome {
@@ -38,8 +43,8 @@ pub fn step_record(rt: &impl Print, mut line: Line<'_>) -> Outcome {
     let mut room = [0; MOST_NUMBERS];
     let count = line.last_words(&mut room)?;
     let strip = &mut room[..count];
-    let answer = table::step_record(strip, &mut rec, hint);
-    say(rt, answer, &[rec])?;
+    let said = table::step_record(strip, &mut rec, hint);
+    say(rt, said, &[rec])?;
     print!(rt; "{}", Words(strip))?;
     Ok(())
 }
@@ -47,15 +52,15 @@ pub fn step_record(rt: &impl Print, mut line: Line<'_>) -> Outcome {
 // Lends the line's table to a call.
 fn on_table<F>(rt: &impl Print, mut line: Line<'_>, call: F) -> Outcome
 where
-    F: FnOnce(&mut [Record]) -> Result<Answer, Refusal>,
+    F: FnOnce(&mut [Record]) -> Said,
     requires { F.IsAlwaysCallable call }
 {
     let mut room = [Record::idle(); MOST_RECORDS];
     let count = line.table(&mut room)?;
     line.end()?;
     let table = &mut room[..count];
-    let answer = call(table);
-    say(rt, answer, table)
+    let said = call(table);
+    say(rt, said, table)
 }
 
 pub fn start_in(rt: &impl Print, mut line: Line<'_>) -> Outcome {
@@ -82,8 +87,8 @@ pub fn step_in(rt: &impl Print, mut line: Line<'_>) -> Outcome {
     let mut words = [0; MOST_NUMBERS];
     let count = line.last_words(&mut words)?;
     let (table, strip) = (&mut records[..parties], &mut words[..count]);
-    let answer = table::step_in(strip, table, party, hint);
-    say(rt, answer, table)?;
+    let said = table::step_in(strip, table, party, hint);
+    say(rt, said, table)?;
     print!(rt; "{}", Words(strip))?;
     Ok(())
 }

@@ -32,11 +32,11 @@ is_going_on (Ok Empty) = false
 is_going_on (Err refusal) = false
 
 -- a step that goes on from stage 1 or 2 has looked
-abbrev pub look_of : Answered → (steps : Bool) → (before : Party) → (entry : ℕ) → ℕ
+abbrev pub look_of : Answered Refusal → (steps : Bool) → (before : Party) → (entry : ℕ) → ℕ
 look_of a steps before entry =
     pick (steps && is_going_on a.answer && (eqb before.rec.stage 1 || eqb before.rec.stage 2)) entry before.look
 
-abbrev pub told_of : Answered → (steps : Bool) → (before : Party) → (entry : ℕ) → Turn
+abbrev pub told_of : Answered Refusal → (steps : Bool) → (before : Party) → (entry : ℕ) → Turn
 told_of a steps before entry =
     record {
       answer = a.answer;

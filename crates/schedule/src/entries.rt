@@ -6,7 +6,7 @@ ghost use Rattle.listing.specs.Listing.{run_text};
 ghost use Rattle.schedule.specs.Inside.{calls_in};
 
 use entry::read;
-use listing::put_line;
+use listing::{Shown, put_line};
 use record::Record;
 use run::{Party, party_in_16, take_turn};
 use text::Text;
@@ -30,6 +30,6 @@ pub fn run_entries(entries: &[[u8; 8]], strip: &mut [u64], parties: u8, text: &m
         let p = party_in_16(e);
         let turn = take_turn(strip, parties, run[p], i as u32, e);
         run[p] = turn.party;
-        put_line(text, i as u32, e, turn);
+        put_line(text, i as u32, e, Shown::from(turn));
     }
 }

@@ -37,7 +37,7 @@ fn judge(max: u16, r: Record, word: u64) -> Answered
         return going_on(r.begun_again());
     }
     if is_push_at_wall(max, r) {
-        return ended(Answer::Full);
+        return ended(Ok(Answer::Full));
     }
     if is_pop_at_far(r) {
         return going_on(r.with_second(word).at_stage(3));
@@ -50,7 +50,7 @@ fn recheck(r: Record, word: u64) -> Answered
     ensures { result ≡ recheck_of r word }
 {
     if word == r.first {
-        return ended(Answer::Empty);
+        return ended(Ok(Answer::Empty));
     }
     going_on(r.at_stage(4))
 }
@@ -70,8 +70,8 @@ fn won(r: Record, then: AfterSwap) -> Answered
 {
     match then {
         AfterSwap::Onward => going_on(r.at_stage(5)),
-        AfterSwap::Push => ended(Answer::Pushed),
-        AfterSwap::Pop => ended(Answer::Popped(value(r.first))),
+        AfterSwap::Push => ended(Ok(Answer::Pushed)),
+        AfterSwap::Pop => ended(Ok(Answer::Popped(value(r.first)))),
     }
 }
 

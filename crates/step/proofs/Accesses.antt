@@ -19,7 +19,7 @@ use Rattle.stages.specs.declared.AfterSwap.{AfterSwap}
 use Rattle.stages.specs.declared.Access.TheVariants.{Look, Swap}
 
 module _ (strip : List ℕ) (r : Record) (hint : ℕ) where
-  pub record Gone (given : Answered) (left : List ℕ) : Type 0 where
+  pub record Gone (given : Answered Refusal) (left : List ℕ) : Type 0 where
     pub answered : step_of strip r hint ≡ given
     pub words : step_leaves strip r hint ≡ left
 

@@ -13,6 +13,7 @@ use Rattle.record.specs.Record.{again}
 use Rattle.record.specs.Valid.{valid_of, place_fits, operation_fits}
 use Rattle.party.specs.Answer.{is_refusal, number_of, carried_of, RefusedKeeps}
 use Rattle.record.specs.declared.Record.{Record}
+use Rattle.refusal.specs.declared.Refusal.{Refusal}
 use Rattle.party.specs.declared.Answered.{Answered}
 use Rattle.party.proofs.Kept.{idle_is_valid}
 use Rattle.record.proofs.Stages.{ValidAt, at_valid, stage_1_fits, stage_2_fits, stage_3_fits, stage_4_fits, busy_fits}
@@ -23,7 +24,7 @@ use Rattle.step.proofs.Went.{GoneOn, Went, went}
 use Rattle.step.proofs.Stepped.{Stepped, stepped}
 
 -- Two results that keep the promise are equal, and so are the words they leave.
-pub two_steps_that_keep_it_are_equal : {strip : List ℕ} {r : Record} {hint : ℕ} {one two : Answered} {left other : List ℕ}
+pub two_steps_that_keep_it_are_equal : {strip : List ℕ} {r : Record} {hint : ℕ} {one two : Answered Refusal} {left other : List ℕ}
     → StepPromise strip r hint one left → StepPromise strip r hint two other → (one ≡ two) × (left ≡ other)
 two_steps_that_keep_it_are_equal p q = (p.gives ∙ sym q.gives, p.words ∙ sym q.words)
 
@@ -47,7 +48,7 @@ module _ (strip : List ℕ) (r : Record) (hint : ℕ) where
       go : Went strip r hint → RefusedKeeps r (step_of strip r hint)
           × (is_refusal (number_of (step_of strip r hint).answer) ≡ true → step_leaves strip r hint ≡ strip)
       go (Went.stays refusal gone) = (
-        λ h. (ap (λ (a : Answered). a.rec) gone.answered, ap (λ (a : Answered). carried_of a.answer) gone.answered),
+        λ h. (ap (λ (a : Answered Refusal). a.rec) gone.answered, ap (λ (a : Answered Refusal). carried_of a.answer) gone.answered),
         λ h. gone.words,
       )
       go (Went.goes clear on) =
@@ -57,9 +58,9 @@ module _ (strip : List ℕ) (r : Record) (hint : ℕ) where
   max = max_of (length strip)
 
   -- what a step gives is valid if what it went to is
-  gone_valid : {given : Answered} {left : List ℕ} → Gone strip r hint given left → valid_of max given.rec ≡ true
+  gone_valid : {given : Answered Refusal} {left : List ℕ} → Gone strip r hint given left → valid_of max given.rec ≡ true
       → valid_of max (step_of strip r hint).rec ≡ true
-  gone_valid gone valid = ap (λ (a : Answered). valid_of max a.rec) gone.answered ∙ valid
+  gone_valid gone valid = ap (λ (a : Answered Refusal). valid_of max a.rec) gone.answered ∙ valid
 
   again_is_valid : operation_fits r ≡ true → valid_of max (again r) ≡ true
   again_is_valid fits = at_valid max (again r) (ValidAt.at1 refl fits refl)

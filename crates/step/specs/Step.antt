@@ -11,6 +11,7 @@ use Rattle.record.specs.Record.{with_place}
 use Rattle.record.specs.Valid.{is_idle, valid_of}
 use Rattle.party.specs.Answer.{unless}
 use Rattle.record.specs.declared.Record.{Record}
+use Rattle.refusal.specs.declared.Refusal.{Refusal}
 use Rattle.party.specs.declared.Answered.{Answered}
 use Rattle.stages.specs.Stages.{access_of}
 use Rattle.stages.specs.Follow.{looked_of, swapped_of}
@@ -42,7 +43,7 @@ abbrev pub aimed : Record → (hint : ℕ) → Record
 aimed r hint = with_place (pick (eqb r.stage 1) hint r.k) r
 
 -- one access: what follows it, and the words it leaves
-abbrev pub followed : List ℕ → Record → Access → Answered
+abbrev pub followed : List ℕ → Record → Access → Answered Refusal
 followed strip r (Look place then) = looked_of (max_of (length strip)) r then (get_or strip place 0)
 followed strip r (Swap place from to then) = swapped_of r then (swap_of (get_or strip place 0) from)
 
@@ -50,7 +51,7 @@ abbrev pub written : List ℕ → Access → List ℕ
 written strip (Look place then) = strip
 written strip (Swap place from to then) = words_after (swap_of (get_or strip place 0) from) strip place (raised_to from to)
 
-unfoldable pub step_of : List ℕ → Record → (hint : ℕ) → Answered
+unfoldable pub step_of : List ℕ → Record → (hint : ℕ) → Answered Refusal
 step_of strip r hint =
     unless (step_refusal (length strip) r hint) r (followed strip (aimed r hint) (access_of (aimed r hint)))
 
@@ -59,6 +60,6 @@ step_leaves strip r hint =
     if_passes (step_refusal (length strip) r hint) (written strip (access_of (aimed r hint))) strip
 
 -- What step promises: the answer, the record and every word of the strip it was lent.
-pub record StepPromise (strip : List ℕ) (r : Record) (hint : ℕ) (got : Answered) (left : List ℕ) : Type 0 where
+pub record StepPromise (strip : List ℕ) (r : Record) (hint : ℕ) (got : Answered Refusal) (left : List ℕ) : Type 0 where
   pub gives : got ≡ step_of strip r hint
   pub words : left ≡ step_leaves strip r hint

@@ -25,23 +25,27 @@ use Rattle.table.specs.Lent.{Does, DoesAtMax, alone, blank}
 
 module _ {strip : List ℕ} {table : List Record} {call : Call} where
   -- Two results that keep one promise are the same and leave the same words and records.
-  pub two_that_keep_it_are_equal : {one two : Result Answer Refusal} {words words' : List ℕ} {left left' : List Record}
-      → Does strip table call one words left → Does strip table call two words' left' → (one ≡ two) × ((words ≡ words') × (left ≡ left'))
+  pub two_that_keep_it_are_equal : {one two : Result Answer Refusal} {order order' : ℕ} {words words' : List ℕ} {left left' : List Record}
+      → Does strip table call one order words left → Does strip table call two order' words' left'
+      → (one ≡ two) × ((order ≡ order') × ((words ≡ words') × (left ≡ left')))
   two_that_keep_it_are_equal p q = (
     p.answer_is ∙ sym q.answer_is,
-    (p.words_left ∙ sym q.words_left, p.records_left ∙ sym q.records_left),
+    (p.carried_is ∙ sym q.carried_is, (p.words_left ∙ sym q.words_left, p.records_left ∙ sym q.records_left)),
   )
 
   -- A refused call carries no order and leaves every word and every record.
-  pub refused_changes_nothing : {answer : Result Answer Refusal} {words : List ℕ} {left : List Record} → Does strip table call answer words left
-      → is_refusal (number_of answer) ≡ true → (carried_of answer ≡ 0) × ((words ≡ strip) × (left ≡ table))
+  pub refused_changes_nothing : {answer : Result Answer Refusal} {carried : ℕ} {words : List ℕ} {left : List Record}
+      → Does strip table call answer carried words left → is_refusal (number_of answer) ≡ true
+      → (carried_of answer ≡ 0) × ((carried ≡ 0) × ((words ≡ strip) × (left ≡ table)))
   refused_changes_nothing p refused =
-      let kept = refused_call_changes_nothing strip table call (rw p.answer_is at refused) in
-      (ap carried_of p.answer_is ∙ kept.carried, (p.words_left ∙ kept.strip_kept, p.records_left ∙ kept.table_kept))
+      let kept = refused_call_changes_nothing strip table call (rw p.answer_is at refused) in (
+        ap carried_of p.answer_is ∙ kept.carried,
+        (p.carried_is ∙ kept.carried, (p.words_left ∙ kept.strip_kept, p.records_left ∙ kept.table_kept)),
+      )
 
   -- Every record but the numbered party's is as it was.
-  pub others_stand : {answer : Result Answer Refusal} {words : List ℕ} {left : List Record} → Does strip table call answer words left
-      → (i : ℕ) → (i ≡ party_of call → ⊥) → get_or left i idle ≡ get_or table i idle
+  pub others_stand : {answer : Result Answer Refusal} {carried : ℕ} {words : List ℕ} {left : List Record}
+      → Does strip table call answer carried words left → (i : ℕ) → (i ≡ party_of call → ⊥) → get_or left i idle ≡ get_or table i idle
   others_stand p i other = ap (λ (l : List Record). get_or l i idle) p.records_left ∙ other_records_stand strip table call i other
 
 -- A record that is lent alone: what is left of it is settled.
@@ -53,7 +57,7 @@ module _ (strip : List ℕ) (r : Record) (hint i : ℕ) (away : i ≡ r.k → �
   abbrev Stands : List ℕ → Type 0
   Stands words = get_or words i 0 ≡ get_or strip i 0
 
-  stands_where : {given : Answered} {words : List ℕ} → Gone strip r hint given words → Stands words → Stands (step_leaves strip r hint)
+  stands_where : {given : Answered Refusal} {words : List ℕ} → Gone strip r hint given words → Stands words → Stands (step_leaves strip r hint)
   stands_where gone stands = subst Stands (sym gone.words) stands
 
   stands_after : GoneOn strip r hint → Stands (step_leaves strip r hint)
@@ -81,18 +85,20 @@ module _ (strip : List ℕ) (r : Record) (hint i : ℕ) (away : i ≡ r.k → �
 module _ (strip strip' : List ℕ) (table : List Record) (call : Call) (len : length strip ≡ length strip')
     (own : own_of strip (record_of table call) call ≡ own_of strip' (record_of table call) call)
     (kept : own_leaves strip' (record_of table call) call ≡ strip') where
-  carries_over : {answer : Result Answer Refusal} {left : List Record} → Does strip table call answer strip left → Does strip' table call answer strip' left
-  carries_over {answer} {left} p = go (decided (gate (length strip) (length table) call))
+  carries_over : {answer : Result Answer Refusal} {carried : ℕ} {left : List Record} → Does strip table call answer carried strip left
+      → Does strip' table call answer carried strip' left
+  carries_over {answer} {carried} {left} p = go (decided (gate (length strip) (length table) call))
     where
       same : gate (length strip') (length table) call ≡ gate (length strip) (length table) call
       same = ap (λ (n : ℕ). gate n (length table) call) (sym len)
 
-      go : Decided (gate (length strip) (length table) call) → Does strip' table call answer strip' left
+      go : Decided (gate (length strip) (length table) call) → Does strip' table call answer carried strip' left
       go (Decided.none clear) =
           let here = call_through strip table call clear in
           let there = call_through strip' table call (same ∙ clear) in
           record {
             answer_is = p.answer_is ∙ simp (here, there, own);
+            carried_is = p.carried_is ∙ simp (here, there, own);
             words_left = simp (there, kept);
             records_left = p.records_left ∙ simp (here, there, own);
           }
@@ -101,6 +107,7 @@ module _ (strip strip' : List ℕ) (table : List Record) (call : Call) (len : le
           let there = call_away strip' table call refusal (same ∙ barred) in
           record {
             answer_is = p.answer_is ∙ simp (here, there);
+            carried_is = p.carried_is ∙ simp (here, there);
             words_left = simp there;
             records_left = p.records_left ∙ simp (here, there);
           }
@@ -112,13 +119,14 @@ module _ (max : ℕ) (strip : List ℕ) (words : length strip ≡ max + 2) (tabl
   same_length : length (blank max) ≡ length strip
   same_length = blank_words max ∙ sym words
 
-  pub any_strip_starts : (party operation order : ℕ) {answer : Result Answer Refusal} {left : List Record}
-      → DoesAtMax max table (Call.start party operation order) answer left → Does strip table (Call.start party operation order) answer strip left
+  pub any_strip_starts : (party operation order : ℕ) {answer : Result Answer Refusal} {carried : ℕ} {left : List Record}
+      → DoesAtMax max table (Call.start party operation order) answer carried left
+      → Does strip table (Call.start party operation order) answer carried strip left
   any_strip_starts party operation order =
       carries_over (blank max) strip table (Call.start party operation order) same_length
       (ap (λ (n : ℕ). start_of (max_of n) (get_or table party idle) operation order) same_length) refl
 
-  pub any_strip_withdraws : (party : ℕ) {answer : Result Answer Refusal} {left : List Record}
-      → DoesAtMax max table (Call.withdraw party) answer left → Does strip table (Call.withdraw party) answer strip left
+  pub any_strip_withdraws : (party : ℕ) {answer : Result Answer Refusal} {carried : ℕ} {left : List Record}
+      → DoesAtMax max table (Call.withdraw party) answer carried left → Does strip table (Call.withdraw party) answer carried strip left
   any_strip_withdraws party =
       carries_over (blank max) strip table (Call.withdraw party) same_length (ap (λ (n : ℕ). withdraw_of (max_of n) (get_or table party idle)) same_length) refl

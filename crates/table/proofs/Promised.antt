@@ -15,6 +15,7 @@ use Rattle.refusal.specs.Refusal.{Check, passes}
 use Rattle.record.specs.declared.Record.{Record}
 use Rattle.party.specs.declared.Answer.{Answer}
 use Rattle.party.specs.declared.Answered.{Answered}
+use Rattle.party.specs.Answer.{carried_of}
 use Rattle.party.specs.Calls.{max_fits, start_of, start_refusal, withdraw_of, withdraw_refusal}
 use Rattle.step.specs.Step.{strip_fits, max_of, step_of, step_leaves, step_refusal}
 use Rattle.call.specs.Call.{Call, party_of, gate_of, gate, own_of, own_leaves, Left, record_of, call_of}
@@ -62,11 +63,11 @@ module _ (strip : List ℕ) (r : Record) where
       go (Call.withdraw party) true e m = simp (m, e)
       go (Call.withdraw party) false e m = simp (m, e)
 
-  does_alone : (call : Call) (given : Answered) (words : List ℕ) → given ≡ own_of strip r call → words ≡ own_leaves strip r call
-      → Does strip (alone r) (of_first call) given.answer words (alone given.rec)
+  does_alone : (call : Call) (given : Answered Refusal) (words : List ℕ) → given ≡ own_of strip r call → words ≡ own_leaves strip r call
+      → Does strip (alone r) (of_first call) given.answer (carried_of given.answer) words (alone given.rec)
   does_alone call given words gives left =
       let by_value = own_alone call in
-      record { answer_is = simp (gives, by_value); words_left = simp (left, by_value); records_left = simp (gives, by_value) }
+      record { answer_is = simp (gives, by_value); carried_is = simp (gives, by_value); words_left = simp (left, by_value); records_left = simp (gives, by_value) }
 
 -- ---- the numbered party's record in the table: the checks, by what they decide
 module _ (strip : List ℕ) (table : List Record) (call : Call) (gated : Check) (gates : gated ≡ gate (length strip) (length table) call) where
@@ -74,39 +75,41 @@ module _ (strip : List ℕ) (table : List Record) (call : Call) (gated : Check) 
   within clear = (past_gate (length strip) (length table) call (sym gates ∙ clear)).party_known
 
   -- they refuse, and nothing is written
-  pub turned_away_lem : (refusal : Refusal) → gated ≡ Err refusal → Does strip table call (Err refusal) strip table
+  pub turned_away_lem : (refusal : Refusal) → gated ≡ Err refusal → Does strip table call (Err refusal) 0 strip table
   turned_away_lem refusal barred =
       let away = call_away strip table call refusal (sym gates ∙ barred) in
-      record { answer_is = simp away; words_left = simp away; records_left = simp away }
+      record { answer_is = simp away; carried_is = simp away; words_left = simp away; records_left = simp away }
 
   -- they pass: what is promised of the record alone
-  pub in_place : gated ≡ passes → (answer : Result Answer Refusal) (words : List ℕ) (r : Record)
-      → Does strip (alone (record_of table call)) (of_first call) answer words (alone r) → Does strip table call answer words (set table (party_of call) r)
+  pub in_place : gated ≡ passes → (answer : Result Answer Refusal) {carried : ℕ} (words : List ℕ) (r : Record)
+      → Does strip (alone (record_of table call)) (of_first call) answer carried words (alone r)
+      → Does strip table call answer carried words (set table (party_of call) r)
   in_place clear answer words r p =
       let by_value = own_alone strip (record_of table call) call in
       let through = call_through strip table call (sym gates ∙ clear) in
       let stored = alone_one (p.records_left ∙ ap (λ (l : Left). l.table) by_value) in
       record {
         answer_is = p.answer_is ∙ simp (by_value, through);
+        carried_is = p.carried_is ∙ simp (by_value, through);
         words_left = p.words_left ∙ simp (by_value, through);
         records_left = simp (stored, through);
       }
 
 -- ---- each call of a record that is lent alone; start and withdraw are handed MAX
-pub step_alone : (strip : List ℕ) (r : Record) (hint : ℕ) (given : Answered) (words : List ℕ) → given ≡ step_of strip r hint
-    → words ≡ step_leaves strip r hint → Does strip (alone r) (Call.step 0 hint) given.answer words (alone given.rec)
+pub step_alone : (strip : List ℕ) (r : Record) (hint : ℕ) (given : Answered Refusal) (words : List ℕ) → given ≡ step_of strip r hint
+    → words ≡ step_leaves strip r hint → Does strip (alone r) (Call.step 0 hint) given.answer (carried_of given.answer) words (alone given.rec)
 step_alone strip r hint = does_alone strip r (Call.step 0 hint)
 
 blank_max : (max : ℕ) → max ≡ max_of (length (blank max))
 blank_max max = rw blank_words (omega arith)
 
-pub start_alone : (max : ℕ) (r : Record) (operation order : ℕ) (given : Answered) → given ≡ start_of max r operation order
-    → DoesAtMax max (alone r) (Call.start 0 operation order) given.answer (alone given.rec)
+pub start_alone : (max : ℕ) (r : Record) (operation order : ℕ) (given : Answered Refusal) → given ≡ start_of max r operation order
+    → DoesAtMax max (alone r) (Call.start 0 operation order) given.answer (carried_of given.answer) (alone given.rec)
 start_alone max r operation order given gives =
     does_alone (blank max) r (Call.start 0 operation order) given (blank max) (subst (λ (m : ℕ). given ≡ start_of m r operation order) (blank_max max) gives) refl
 
-pub withdraw_alone : (max : ℕ) (r : Record) (given : Answered) → given ≡ withdraw_of max r
-    → DoesAtMax max (alone r) (Call.withdraw 0) given.answer (alone given.rec)
+pub withdraw_alone : (max : ℕ) (r : Record) (given : Answered Refusal) → given ≡ withdraw_of max r
+    → DoesAtMax max (alone r) (Call.withdraw 0) given.answer (carried_of given.answer) (alone given.rec)
 withdraw_alone max r given gives =
     does_alone (blank max) r (Call.withdraw 0) given (blank max) (subst (λ (m : ℕ). given ≡ withdraw_of m r) (blank_max max) gives) refl
 

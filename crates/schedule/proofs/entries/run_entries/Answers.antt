@@ -34,14 +34,14 @@ loop-i-init c =
 pub put_line-requires : goal.put_line-requires
 put_line-requires c =
     let turn = (goal.at.put_line-requires c).After-take_turn-turn in
-    room_left _ _ (rw (moved turn).text at (rest_room c.requires.2 c.loop-i.invariant.lines))
+    rw c.from.ensures (room_left _ _ (rw (moved turn).text at (rest_room c.requires.2 c.loop-i.invariant.lines)))
 
 pub loop-i-preserved : goal.loop-i-preserved
 loop-i-preserved c =
     let turn = (goal.at.loop-i-preserved c).After-take_turn-turn in
     let now = c.loop-i.invariant in
     running_moves _ _ _ _ now (omega (arith, length-map c.args.entries.now (λ (entry : List ℕ). call_at entry 0)))
-    (simp length-set now.all_16) c.take_turn-turn.auto.strip (moved turn) c.put_line.ensures
+    (simp length-set now.all_16) c.take_turn-turn.auto.strip (moved turn) (rw c.from.ensures at c.put_line.ensures)
 
 pub returns-clause-lines : goal.returns-clause-lines
 returns-clause-lines c = (running_ends _ _ _ _ c.loop-i.invariant (omega (arith, length-map c.args.entries.now (λ (entry : List ℕ). call_at entry 0)))).0
