@@ -1,11 +1,12 @@
 // The lines of standard input, each answered by one line.
-ghost use Rattle.std.specs.Prelude.{◌≡◌, ◌≤◌, length, IfOk, IfSome};
+ghost use Rattle.std.specs.Prelude.{◌≡◌, ◌≤◌, length, IfOk, IfSome, vec_len};
 
 use crate::ahead::Ahead;
 use crate::answer::{Outcome, Unanswered};
 use crate::line::Line;
+use std::alloc::Global;
 use std::io;
-use std::io::Read;
+use std::io::{BufRead, BufReader, Read};
 
 // The longest line writes an image: 4,097 words and 17 records, each number a blank and up to 20 digits, and 33,352 bytes, which is more
 // than the largest image has, so that one that is too long can be shown.
@@ -51,9 +52,51 @@ pub fn read_line(input: &mut impl Read, room: &mut [u8]) -> io::Result<Option<us
     Ok(Some(count))
 }
 
-// Answers each line. Public for the text doors, which hand over what answers one, and asks that it may be called on a line of that length.
-// The loop ends at a number that no input reaches, for a proved loop has to end.
+// The same onto the heap, which grows with the line up to 163,841 bytes. A read that was interrupted is tried again.
+fn line_on_heap(alloc: Global, input: &mut impl BufRead) -> io::Result<Option<Vec<u8>>>
+    ensures { IfOk result (λ line. IfSome line (λ bytes. vec_len bytes ≤ 163840)) }
+{
+    let mut input = input.take(MOST_READ as u64);
+    let mut line = Vec::new(alloc);
+    input.by_ref().take(163_841).read_until(b'\n', &mut line)?;
+    if line.is_empty() {
+        return Ok(None);
+    }
+    if LONGEST < line.len() {
+        if line.last() != Some(&b'\n') {
+            input.skip_until(b'\n')?;
+        }
+        line.clear();
+    }
+    Ok(Some(line))
+}
+
+// Answers each line. It reads ahead, into a buffer on the heap, and a read that was interrupted is tried again. Public for a program that
+// has a heap, and asks that what answers a line may be called on any. The loop ends at a number that no input reaches, for a proved loop
+// has to end.
 pub fn answer_lines<R, F>(rt: &R, answer: F) -> io::Result<()>
+where
+    R: Input + Print + AllocGlobal,
+    F: Fn(Line<'_>) -> Outcome,
+    requires { F.IsAlwaysCallable answer }
+{
+    let mut input = BufReader::new(rt.alloc(), rt.reader())?;
+    for _ in 0..u64::MAX {
+        let Some(line) = line_on_heap(rt.alloc(), &mut input)? else {
+            return Ok(());
+        };
+        match answer(Line::new(&line)) {
+            Ok(()) => rt.write_all(b"\n")?,
+            Err(Unanswered::NoCall) => rt.write_all(b"?\n")?,
+            Err(Unanswered::Failed(e)) => return Err(e),
+        }
+    }
+    Ok(())
+}
+
+// The same in fixed memory: no heap, and no byte read ahead that the reader would not give back. A read that was interrupted ends it. Public
+// for the text doors, which hand over what answers a line, and asks that it may be called on one of that length.
+pub fn answer_in_fixed_memory<R, F>(rt: &R, answer: F) -> io::Result<()>
 where
     R: Input + Print,
     F: Fn(Line<'_>) -> Outcome,

@@ -17,7 +17,7 @@ mod calls;
 
 use crate::calls::{find, lay, measure, start, step, withdraw};
 use console::answer::{Outcome, Unanswered};
-use console::input::answer_lines;
+use console::input::answer_in_fixed_memory;
 use console::line::Line;
 use std::io;
 
@@ -42,5 +42,5 @@ fn answer(rt: &impl Print, mut line: Line<'_>) -> Outcome {
 }
 
 fn main(rt: HostRuntime) -> io::Result<()> {
-    answer_lines(&rt, |line| answer(&rt, line))
+    answer_in_fixed_memory(&rt, |line| answer(&rt, line))
 }

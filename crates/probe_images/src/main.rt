@@ -19,7 +19,7 @@ mod calls;
 
 use crate::calls::{lay, read, start, step, withdraw, write};
 use console::answer::{Outcome, Unanswered};
-use console::input::answer_lines;
+use console::input::answer_in_fixed_memory;
 use console::line::Line;
 use std::io;
 
@@ -36,5 +36,5 @@ fn answer(rt: &impl Print, mut line: Line<'_>) -> Outcome {
 }
 
 fn main(rt: HostRuntime) -> io::Result<()> {
-    answer_lines(&rt, |line| answer(&rt, line))
+    answer_in_fixed_memory(&rt, |line| answer(&rt, line))
 }
