@@ -52,7 +52,7 @@ pub fn read_line(input: &mut impl Read, room: &mut [u8]) -> io::Result<Option<us
     Ok(Some(count))
 }
 
-// The same onto the heap, which grows with the line up to 163,841 bytes. A read that was interrupted is tried again.
+// The same into a vector, which takes no more than one byte past the longest line. A read that was interrupted is tried again.
 fn line_on_heap(alloc: Global, input: &mut impl BufRead) -> io::Result<Option<Vec<u8>>>
     ensures { IfOk result (λ line. IfSome line (λ bytes. vec_len bytes ≤ 163840)) }
 {
@@ -72,8 +72,8 @@ fn line_on_heap(alloc: Global, input: &mut impl BufRead) -> io::Result<Option<Ve
 }
 
 // Answers each line. It reads ahead, into a buffer on the heap, and a read that was interrupted is tried again. Public for a program that
-// has a heap, and asks that what answers a line may be called on any. The loop ends at a number that no input reaches, for a proved loop
-// has to end.
+// has a heap, and asks that what answers a line may be called on any. This loop and the next end at a number that no input reaches, for a
+// proved loop has to end; they stand side by side, since one for both costs the text doors instructions (measured).
 pub fn answer_lines<R, F>(rt: &R, answer: F) -> io::Result<()>
 where
     R: Input + Print + AllocGlobal,
@@ -95,7 +95,7 @@ where
 }
 
 // The same in fixed memory: no heap, and no byte read ahead that the reader would not give back. A read that was interrupted ends it. Public
-// for the text doors, which hand over what answers a line, and asks that it may be called on one of that length.
+// for the text doors, which hand over what answers a line, and asks that it may be called on a line of up to 163,840 bytes.
 pub fn answer_in_fixed_memory<R, F>(rt: &R, answer: F) -> io::Result<()>
 where
     R: Input + Print,
